@@ -1,0 +1,27 @@
+-- `numbers::class::from_bits64` meets its contract: a NaN's pattern gives the NaN that 0 / 0 is. Assumes nothing.
+use mathlib.Core.Path.{_≡_, refl, sym, _∙_}
+use borrow.Author.Needs.{needs}
+use lib.Ieee.{nan, binary64, ofBits, div}
+use Rattle.numbers.proofs.Patterns.{nan-tested}
+use Rattle.numbers.proofs.Tests.{fails}
+use Rattle.numbers.proofs.class.from_bits64.Statement.{statement}
+use Rattle.numbers.proofs.class.from_bits64.Tie as tie
+
+is-nan-bits64-requires : tie.Need-is-nan-bits64-requires
+is-nan-bits64-requires c κs = search needs
+
+no-number : div binary64 (ofBits binary64 0) (ofBits binary64 0) ≡ nan
+unfolding ofBits div
+no-number = refl
+
+returns : tie.Need-returns
+returns c = no-number ∙ sym (nan-tested binary64 (c .before .before .args .b) (sym (c .before .is-nan-bits64 .ensures) ∙ c .if1 .taken))
+
+float-from-bits-result : tie.Need-float-from-bits-result
+float-from-bits-result c = fails (sym (c .before .is-nan-bits64 .ensures) ∙ c .if1 .left)
+
+returns-2 : tie.Need-returns-2
+returns-2 c = search needs
+
+pub from-bits64-spec : {M : Type 1} → statement M
+from-bits64-spec = tie.close (tie.spec is-nan-bits64-requires returns float-from-bits-result returns-2)

@@ -1,0 +1,22 @@
+-- `numbers::whole::floor_bits32` meets its contract: the float form between the two ends. Assumes nothing.
+use mathlib.Core.Path.{ap, _∙_}
+use borrow.Author.Needs.{needs}
+use lib.Ieee.{binary32, toBits}
+use Rattle.numbers.specs.Whole.{floorOf}
+use Rattle.numbers.proofs.whole.floor_bits32.Statement.{statement}
+use Rattle.numbers.proofs.whole.floor_bits32.Tie as tie
+
+from-bits32-requires : tie.Need-from-bits32-requires
+from-bits32-requires c κs = search needs
+
+floor32-requires : tie.Need-floor32-requires
+floor32-requires c κs = search needs
+
+to-bits32-requires : tie.Need-to-bits32-requires
+to-bits32-requires c κs = search needs
+
+returns : tie.Need-returns
+returns c = c .to-bits32 .ensures ∙ ap (toBits binary32) (c .before .floor32 .ensures ∙ ap (floorOf binary32) (c .before .before .from-bits32 .ensures))
+
+pub floor-bits32-spec : {M : Type 1} → statement M
+floor-bits32-spec = tie.close (tie.spec from-bits32-requires floor32-requires to-bits32-requires returns)

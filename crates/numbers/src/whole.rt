@@ -1,0 +1,93 @@
+// Floor, and round with halves away from zero. A zero result takes the argument's sign; NaN and infinities stay.
+// From 2^23 on every f32 is whole. Below it the whole part comes by shifts and masks; where the result is a zero, the
+// short path is two comparisons and a product.
+use crate::class::from_bits32;
+use crate::class::to_bits32;
+ghost use mathlib.Core.Path.{_≡_};
+ghost use lib.Ieee.{binary32, ofBits, toBits};
+ghost use Rattle.numbers.specs.Whole.{floorOf, roundOf};
+
+fn floor_any32(x: f32) -> f32
+    ensures { λ r. ⌜ r ≡ floorOf binary32 x ⌝ }
+{
+    if x > 0.0 {
+        if x < 8388608.0 {
+            return std::num::truncating_f32_to_u64(x) as f32;
+        }
+        return x;
+    }
+    if x < 0.0 {
+        if x > -8388608.0 {
+            let a = -x;
+            let w = std::num::truncating_f32_to_u64(a);
+            // A fraction is left over: the whole number below x is one further from zero.
+            if (w as f32) < a {
+                return -((w + 1) as f32);
+            }
+            return -(w as f32);
+        }
+        return x;
+    }
+    x
+}
+
+// The largest whole number that is not above x.
+pub fn floor32(x: f32) -> f32
+    ensures { λ r. ⌜ r ≡ floorOf binary32 x ⌝ }
+{
+    if x < 1.0 {
+        if x >= 0.0 {
+            return x * 0.0; // from 0 up to 1
+        }
+        return floor_any32(x);
+    }
+    floor_any32(x)
+}
+
+fn round_any32(x: f32) -> f32
+    ensures { λ r. ⌜ r ≡ roundOf binary32 x ⌝ }
+{
+    if x > 0.0 {
+        if x < 8388608.0 {
+            let twice = std::num::truncating_f32_to_u64(x + x);
+            return ((twice + 1) >> 1) as f32;
+        }
+        return x;
+    }
+    if x < 0.0 {
+        if x > -8388608.0 {
+            let a = -x;
+            let twice = std::num::truncating_f32_to_u64(a + a);
+            return -(((twice + 1) >> 1) as f32);
+        }
+        return x;
+    }
+    x
+}
+
+// The whole number nearest to x, a half away from zero.
+pub fn round32(x: f32) -> f32
+    ensures { λ r. ⌜ r ≡ roundOf binary32 x ⌝ }
+{
+    if x < 0.5 {
+        if x > -0.5 {
+            return x * 0.0; // nearer to 0 than a half
+        }
+        return round_any32(x);
+    }
+    round_any32(x)
+}
+
+// The bits of the floor of the f32 whose bits are b. Every NaN gives 7FC00000.
+pub fn floor_bits32(b: u32) -> u32
+    ensures { λ r. ⌜ r ≡ toBits binary32 (floorOf binary32 (ofBits binary32 b)) ⌝ }
+{
+    to_bits32(floor32(from_bits32(b)))
+}
+
+// The bits of the f32 whose bits are b, rounded to a whole number. Every NaN gives 7FC00000.
+pub fn round_bits32(b: u32) -> u32
+    ensures { λ r. ⌜ r ≡ toBits binary32 (roundOf binary32 (ofBits binary32 b)) ⌝ }
+{
+    to_bits32(round32(from_bits32(b)))
+}
