@@ -1,0 +1,16 @@
+-- `cell::image_axis` meets its contract. The code's expression, with the whole number that `round32` gives, is the definition.
+-- Assumes nothing.
+use borrow.Author.Needs.{needs}
+use Rattle.cell.specs.Cell.{imageAxis}
+use Rattle.cell.proofs.image_axis.Statement.{statement}
+use Rattle.cell.proofs.image_axis.Tie as tie
+
+round32-requires : tie.Need-round32-requires
+round32-requires c κs = search needs
+
+returns : tie.Need-returns
+unfolding imageAxis
+returns c = cc
+
+pub image-axis-spec : {M : Type 1} → statement M
+image-axis-spec = tie.close (tie.spec round32-requires returns)

@@ -1,0 +1,17 @@
+-- `cell::limits::long` meets its contract. The code's test of the length is the definition.
+-- Assumes nothing.
+use mathlib.Core.Path.{refl}
+use borrow.Author.Needs.{needs}
+use Rattle.cell.specs.Limits.{long}
+use Rattle.cell.proofs.limits.long.Statement.{statement}
+use Rattle.cell.proofs.limits.long.Tie as tie
+
+mul-result : tie.Need-mul-result
+mul-result c = search needs
+
+returns : tie.Need-returns
+unfolding long
+returns c = refl
+
+pub long-spec : {M : Type 1} → statement M
+long-spec = tie.close (tie.spec mul-result returns)

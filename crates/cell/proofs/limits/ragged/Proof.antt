@@ -1,0 +1,13 @@
+-- `cell::limits::ragged` meets its contract. The code's test of the length is the definition.
+-- Assumes nothing.
+use mathlib.Core.Path.{refl}
+use Rattle.cell.specs.Limits.{ragged}
+use Rattle.cell.proofs.limits.ragged.Statement.{statement}
+use Rattle.cell.proofs.limits.ragged.Tie as tie
+
+returns : tie.Need-returns
+unfolding ragged
+returns c = refl
+
+pub ragged-spec : {M : Type 1} → statement M
+ragged-spec = tie.close (tie.spec returns)

@@ -1,0 +1,16 @@
+-- `cell::valid_axis` meets its contract. The code's test with what `is_finite32` answers is the definition.
+-- Assumes nothing.
+use borrow.Author.Needs.{needs}
+use Rattle.cell.specs.Cell.{validAxis}
+use Rattle.cell.proofs.valid_axis.Statement.{statement}
+use Rattle.cell.proofs.valid_axis.Tie as tie
+
+is-finite32-requires : tie.Need-is-finite32-requires
+is-finite32-requires c κs = search needs
+
+returns : tie.Need-returns
+unfolding validAxis
+returns c = cc
+
+pub valid-axis-spec : {M : Type 1} → statement M
+valid-axis-spec = tie.close (tie.spec is-finite32-requires returns)

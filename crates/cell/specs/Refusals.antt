@@ -1,0 +1,25 @@
+-- Document 01, 'Answers by operation': a refusal is given on its condition and only then, the first in the call's order, as its
+-- number alone. A call's refusals are one list, in that order. Definitions only. Assumes nothing.
+use Prim.Native.Nat.{ℕ}
+use mathlib.Core.Bool.{Bool, cond}
+use mathlib.Core.List.{List, [], _∷_}
+use Rattle.cell.specs.declared.Answer.{Answer}
+use Rattle.cell.specs.declared.Answer.the-variants.{Accepted, Refused}
+
+-- a refusal's number, and whether its condition holds
+pub record Refusal : Type 0 where
+  pub number : ℕ
+  pub holds : Bool
+
+abbrev pub refuse : ℕ → Bool → Refusal
+refuse n b = record { number = n; holds = b }
+
+-- the first number that holds; 0 where none does
+unfoldable pub firstRefusal : List Refusal → ℕ
+firstRefusal [] = 0
+firstRefusal (r ∷ rs) = cond (r .holds) (r .number) (firstRefusal rs)
+
+-- the number of each case of an answer: 0 for acceptance, a refusal's own
+abbrev pub numberOf : Answer → ℕ
+numberOf Accepted = 0
+numberOf (Refused n) = n

@@ -1,0 +1,90 @@
+// The limits of a frame (document 01, 'Answers by operation') and the refusals 1, 2, 3, 4 and 15. A call that takes no
+// waters or no indices hands over an empty list in their place.
+use crate::Cell;
+ghost use mathlib.Core.Path.{_≡_};
+ghost use lib.ListN.{length};
+ghost use Rattle.cell.specs.Limits.{over as overOf, anyOver, ragged as raggedOf, long as longOf, boundOver, frameRefusals, maxCoordinate};
+ghost use Rattle.cell.specs.Refusals.{firstRefusal};
+
+pub const MAX_ATOMS: usize = 65536;
+
+pub const MAX_INDICES: usize = 256;
+
+pub const MAX_COPIES: usize = 4096;
+
+pub const MAX_PICKS: usize = 65536;
+
+const MAX_BOUND: f32 = 65536.0;
+
+const MAX_COORDINATE: f32 = 1048576.0;
+
+// Whether x is finite and over a limit in magnitude.
+fn over(limit: f32, x: f32) -> bool
+    ensures { λ r. ⌜ r ≡ overOf limit x ⌝ }
+{
+    numbers::class::is_finite32(x) & ((limit < x) | (x < -limit))
+}
+
+// Whether a coordinate of the list is over its limit (4), one at a time: also in a point that is not finite.
+pub fn coordinate_over(xs: &[f32]) -> bool
+    ensures { λ r. ⌜ r ≡ anyOver maxCoordinate (now (xs .entry)) ⌝ }
+{
+    let mut i = 0;
+    while i < xs.len() {
+        if over(MAX_COORDINATE, xs[i]) {
+            return true;
+        }
+        i += 1;
+    }
+    false
+}
+
+// Whether a bound of the cell is over its limit (3).
+pub fn bound_over(cell: Cell) -> bool
+    ensures { λ r. ⌜ r ≡ boundOver cell ⌝ }
+{
+    over(MAX_BOUND, cell.low.x)
+        | (over(MAX_BOUND, cell.low.y)
+            | (over(MAX_BOUND, cell.low.z)
+                | (over(MAX_BOUND, cell.high.x)
+                    | (over(MAX_BOUND, cell.high.y) | over(MAX_BOUND, cell.high.z)))))
+}
+
+// Whether the list's length is no multiple of three (1).
+pub fn ragged(xs: &[f32]) -> bool
+    ensures { λ r. ⌜ r ≡ raggedOf (now (xs .entry)) ⌝ }
+{
+    xs.len() % 3 != 0
+}
+
+// Whether the list has more points than the limit (2).
+pub fn long(xs: &[f32]) -> bool
+    ensures { λ r. ⌜ r ≡ longOf (now (xs .entry)) ⌝ }
+{
+    xs.len() > MAX_ATOMS * 3
+}
+
+// The first of 1, 2, 3, 4 and 15 that holds, or 0: what every call on a cell and its coordinates tests before all else.
+pub fn frame_refusal(cell: Cell, solutes: &[f32], waters: &[f32]) -> u32
+    ensures { λ r. ⌜ r ≡ firstRefusal (frameRefusals cell (now (solutes .entry)) (now (waters .entry))) ⌝ }
+{
+    if ragged(solutes) | ragged(waters) {
+        return 1;
+    }
+    if long(solutes) | long(waters) {
+        return 2;
+    }
+    if bound_over(cell) {
+        return 3;
+    }
+    if coordinate_over(solutes) {
+        return 4;
+    }
+    if coordinate_over(waters) {
+        return 4;
+    }
+    if !crate::is_valid(cell) {
+        return 15;
+    }
+    0
+}
