@@ -1,0 +1,19 @@
+-- The laws that the proofs of this crate and of the layers above it cite.
+-- what is picked of a copy, an index or an atom at a time, and how much
+pub mod Picked
+-- the kept copies, a chunk at a time
+pub mod Copies
+-- both pick lists written a copy at a time
+pub mod Writing
+-- Select's refusals as one chain of tests, and what an answer says
+pub mod SelectRefusals
+-- the tests of sound pick lists, an element at a time, and what sound pick lists have
+pub mod SoundLists
+-- what Select writes is sound
+pub mod SoundSelect
+-- the refusals that every call on pick lists makes first
+pub mod InputRefusals
+-- the picks of one copy
+pub mod CopyPicks
+-- document 01's checked frames on this layer, worked out
+pub mod Examples

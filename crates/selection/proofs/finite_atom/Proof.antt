@@ -1,0 +1,19 @@
+-- `selection::finite_atom` meets its contract. The test of the atom's point is the definition.
+-- Assumes nothing.
+use borrow.Author.Needs.{needs}
+use Rattle.selection.specs.Selection.{finiteAtom}
+use Rattle.selection.proofs.finite_atom.Statement.{statement}
+use Rattle.selection.proofs.finite_atom.Tie as tie
+
+point-requires : tie.Need-point-requires
+point-requires c κs = search needs
+
+is-finite-requires : tie.Need-is-finite-requires
+is-finite-requires c κs = search needs
+
+returns : tie.Need-returns
+unfolding finiteAtom
+returns c = cc
+
+pub finite-atom-spec : {M : Type 1} → statement M
+finite-atom-spec = tie.close (tie.spec point-requires is-finite-requires returns)

@@ -1,0 +1,116 @@
+-- Document 01, 'Selection' and Select. Atoms are numbered among all solute atoms. Definitions only. Assumes nothing.
+use Prim.Native.Nat.{ℕ, zero, suc, _+_, _*_, _/_}
+use mathlib.Core.Bool.{Bool, cond, _&&_, _||_}
+use mathlib.Core.List.{List, [], _∷_, _++_}
+use lib.Dec.{ltb}
+use lib.ListN.{length}
+use lib.Ieee.{Float}
+use Rattle.cell.specs.Cell.{pointAt, finitePoint}
+use Rattle.cell.specs.Limits.{maxCopies, maxPicks, lengths, counts, coordinates}
+use Rattle.cell.specs.Refusals.{Refusal, refuse, firstRefusal}
+use Rattle.cell.specs.Tables.{over, unlessRefused}
+use Rattle.selection.specs.declared.Selected.{Selected}
+use Rattle.selection.specs.declared.Selected.the-variants.{Refused, Kept}
+
+unfoldable pub finiteAtom : List Float → ℕ → Bool
+finiteAtom xs k = finitePoint (pointAt xs k)
+
+-- the finite atoms among the n from number k on
+unfoldable pub finiteFrom : List Float → ℕ → ℕ → List ℕ
+unfolding finiteAtom
+finiteFrom xs zero k = []
+finiteFrom xs (suc n) k = let rest = finiteFrom xs n (k + 1) in cond (finiteAtom xs k) (k ∷ rest) rest
+
+-- indices in list order, repeats again, those past the copy or not finite skipped; the copy has `per` atoms from number `base` on
+unfoldable pub indexed : List Float → ℕ → ℕ → List ℕ → List ℕ
+unfolding finiteAtom
+indexed xs per base [] = []
+indexed xs per base (i ∷ is) = let rest = indexed xs per base is in cond (ltb i per && finiteAtom xs (base + i)) ((base + i) ∷ rest) rest
+
+-- the first list, or the second where the first is empty
+abbrev pub orElse : List ℕ → List ℕ → List ℕ
+orElse [] ys = ys
+orElse (x ∷ xs) ys = x ∷ xs
+
+-- what is picked of the copy at base: by the indices, and if nothing was (an empty index list picks nothing), all its finite atoms
+unfoldable pub picked : List Float → ℕ → List ℕ → ℕ → List ℕ
+unfolding finiteFrom indexed
+picked xs per is base = orElse (indexed xs per base is) (finiteFrom xs per base)
+
+-- a copy with no pick vanishes
+abbrev pub keep : List ℕ → List (List ℕ) → List (List ℕ)
+keep [] cs = cs
+keep (p ∷ ps) cs = (p ∷ ps) ∷ cs
+
+-- the kept copies among n chunks from number base on
+unfoldable pub copiesFrom : List Float → ℕ → List ℕ → ℕ → ℕ → List (List ℕ)
+unfolding picked
+copiesFrom xs per is zero base = []
+copiesFrom xs per is (suc n) base = let rest = copiesFrom xs per is n (base + per) in keep (picked xs per is base) rest
+
+-- whole chunks of atoms per copy: zero gives none, a trailing short chunk is dropped
+unfoldable pub chunks : ℕ → ℕ → ℕ
+chunks zero atoms = 0
+chunks (suc p) atoms = atoms / suc p
+
+-- the kept copies, each by its picks
+unfoldable pub keptCopies : List Float → ℕ → List ℕ → List (List ℕ)
+unfolding copiesFrom chunks
+keptCopies xs per is = copiesFrom xs per is (chunks per (length xs / 3)) 0
+
+-- ---- the pick lists
+unfoldable pub joined : List (List ℕ) → List ℕ
+joined [] = []
+joined (c ∷ cs) = c ++ joined cs
+
+-- where each copy's picks start, and after the last where they end
+unfoldable pub startsFrom : ℕ → List (List ℕ) → List ℕ
+startsFrom at [] = at ∷ []
+startsFrom at (c ∷ cs) = at ∷ startsFrom (at + length c) cs
+
+unfoldable pub startsOf : List (List ℕ) → List ℕ
+unfolding startsFrom
+startsOf cs = startsFrom 0 cs
+
+-- ---- Select
+-- 5, 6 and 7, for pick lists of these copies in tables of these lengths
+unfoldable pub roomRefusals : List (List ℕ) → ℕ → ℕ → List Refusal
+unfolding joined
+roomRefusals cs starts picks =
+    refuse 5 (ltb maxCopies (length cs))
+    ∷ refuse 6 (ltb maxPicks (length (joined cs)))
+    ∷ refuse 7 (ltb starts (length cs + 1) || ltb picks (length (joined cs)))
+    ∷ []
+
+unfoldable pub selectRefusals : List Float → ℕ → List ℕ → List ℕ → List ℕ → List Refusal
+unfolding lengths counts coordinates roomRefusals keptCopies
+selectRefusals solutes per indices starts picks =
+    lengths solutes [] ∷ counts solutes [] indices ∷ coordinates solutes [] ∷ roomRefusals (keptCopies solutes per indices) (length starts) (length picks)
+
+unfoldable pub selectRefusal : List Float → ℕ → List ℕ → List ℕ → List ℕ → ℕ
+unfolding selectRefusals firstRefusal
+selectRefusal solutes per indices starts picks = firstRefusal (selectRefusals solutes per indices starts picks)
+
+-- the number of each case of an answer: a refusal's own, 0 for success
+abbrev pub refusalOf : Selected → ℕ
+refusalOf (Refused n) = n
+refusalOf (Kept copies picks) = 0
+
+-- the values of each case: none with a refusal, the kept copies and the picks with success
+abbrev pub valuesOf : Selected → List ℕ
+valuesOf (Refused n) = []
+valuesOf (Kept copies picks) = copies ∷ picks ∷ []
+
+unfoldable pub selectValues : List Float → ℕ → List ℕ → List ℕ → List ℕ → List ℕ
+unfolding selectRefusal keptCopies joined
+selectValues solutes per indices starts picks =
+    unlessRefused (selectRefusal solutes per indices starts picks) (length (keptCopies solutes per indices) ∷ length (joined (keptCopies solutes per indices)) ∷ []) []
+
+-- both tables afterwards
+unfoldable pub selectStarts : List Float → ℕ → List ℕ → List ℕ → List ℕ → List ℕ
+unfolding selectRefusal keptCopies startsOf over
+selectStarts solutes per indices starts picks = unlessRefused (selectRefusal solutes per indices starts picks) (over (startsOf (keptCopies solutes per indices)) starts) starts
+
+unfoldable pub selectPicks : List Float → ℕ → List ℕ → List ℕ → List ℕ → List ℕ
+unfolding selectRefusal keptCopies joined over
+selectPicks solutes per indices starts picks = unlessRefused (selectRefusal solutes per indices starts picks) (over (joined (keptCopies solutes per indices)) picks) picks

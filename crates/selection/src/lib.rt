@@ -1,0 +1,248 @@
+// Which atoms count (document 01, 'Selection'): Select, and whether pick lists are sound (8).
+// Select passes over the copies twice: it counts before it writes, so that a refusal changes nothing.
+ghost use mathlib.Core.Path.{_≡_};
+ghost use Prim.Native.Nat.{_+_, _*_, _≤_, _<_};
+ghost use mathlib.Core.Bool.{_&&_};
+ghost use lib.Dec.{ltb};
+ghost use lib.ListN.{length};
+ghost use Rattle.cell.specs.Tables.{placed, over};
+ghost use Rattle.selection.specs.Selection.{finiteAtom, finiteFrom, indexed, picked, keptCopies, joined, startsOf, refusalOf, valuesOf, selectRefusal, selectValues, selectStarts, selectPicks};
+
+// sound.rt: whether pick lists are sound
+pub mod sound;
+
+use cell::limits::MAX_ATOMS;
+use cell::limits::MAX_COPIES;
+use cell::limits::MAX_INDICES;
+use cell::limits::MAX_PICKS;
+
+// What Select answers: a refusal by its number, or the kept copies and the picks.
+pub enum Selected {
+    Refused(u32),
+    Kept { copies: usize, picks: usize },
+}
+
+// How many copies are kept, and how many atoms are picked in them.
+pub struct Counted {
+    pub copies: usize,
+    pub picks: usize,
+}
+
+// Whether solute atom k is finite.
+pub fn finite_atom(xs: &[f32], k: usize) -> bool
+    requires { ⌜ k * 3 + 2 < length (now xs) ⌝ }
+    ensures { λ r. ⌜ r ≡ finiteAtom (now (xs .entry)) k ⌝ }
+{
+    cell::is_finite(cell::point(xs, k))
+}
+
+// Whether index i names a finite atom of the copy at base.
+fn named(xs: &[f32], per: usize, base: usize, i: usize) -> bool
+    requires { ⌜ (base + per) * 3 ≤ length (now xs) ⌝ }
+    ensures { λ r. ⌜ r ≡ (ltb i per && finiteAtom (now (xs .entry)) (base + i)) ⌝ }
+{
+    if i < per {
+        return finite_atom(xs, base + i);
+    }
+    false
+}
+
+fn count_indexed(xs: &[f32], per: usize, base: usize, indices: &[u32]) -> usize
+    requires { ⌜ (base + per) * 3 ≤ length (now xs) ⌝ }
+    ensures { λ r. ⌜ r ≡ length (indexed (now (xs .entry)) per base (now (indices .entry))) ⌝ }
+{
+    let mut n: usize = 0;
+    let mut j = 0;
+    while j < indices.len() {
+        if named(xs, per, base, indices[j] as usize) {
+            n += 1;
+        }
+        j += 1;
+    }
+    n
+}
+
+fn count_finite(xs: &[f32], per: usize, base: usize) -> usize
+    requires { ⌜ (base + per) * 3 ≤ length (now xs) ⌝ }
+    ensures { λ r. ⌜ r ≡ length (finiteFrom (now (xs .entry)) per base) ⌝ }
+{
+    let mut n: usize = 0;
+    let mut k: usize = 0;
+    while k < per {
+        if finite_atom(xs, base + k) {
+            n += 1;
+        }
+        k += 1;
+    }
+    n
+}
+
+// How many atoms are picked of the copy at base.
+fn count_copy(xs: &[f32], per: usize, base: usize, indices: &[u32]) -> usize
+    requires { ⌜ (base + per) * 3 ≤ length (now xs) ⌝ }
+    ensures { λ r. ⌜ r ≡ length (picked (now (xs .entry)) per (now (indices .entry)) base) ⌝ }
+{
+    let n = count_indexed(xs, per, base, indices);
+    if n > 0 {
+        return n;
+    }
+    count_finite(xs, per, base)
+}
+
+// How many copies are kept and atoms picked. Within the limits on the lists neither sum wraps.
+pub fn count(xs: &[f32], per: usize, indices: &[u32]) -> Counted
+    requires { ⌜ (length (now xs) ≤ 196608) × (length (now indices) ≤ 256) ⌝ }
+    ensures { λ r. ⌜ (r .copies ≡ length (keptCopies (now (xs .entry)) per (now (indices .entry)))) × (r .picks ≡ length (joined (keptCopies (now (xs .entry)) per (now (indices .entry))))) ⌝ }
+{
+    let mut copies: usize = 0;
+    let mut picks: usize = 0;
+    if (per == 0) | (per > MAX_ATOMS) {
+        return Counted { copies, picks };
+    }
+    let step = per * 3;
+    let mut left = xs.len();
+    let mut base: usize = 0;
+    while step <= left {
+        let n = count_copy(xs, per, base, indices);
+        if n > 0 {
+            copies += 1;
+        }
+        picks += n;
+        base += per;
+        left -= step;
+    }
+    Counted { copies, picks }
+}
+
+fn put_indexed(
+    xs: &[f32],
+    per: usize,
+    base: usize,
+    indices: &[u32],
+    picks: &mut [u32],
+    at: usize,
+) -> usize
+    requires { ⌜ ((base + per) * 3 ≤ length (now xs)) × (length (now xs) ≤ 196608) ⌝ }
+    requires { ⌜ at + length (indexed (now xs) per base (now indices)) ≤ length (now picks) ⌝ }
+    ensures { λ r. ⌜ r ≡ at + length (indexed (now (xs .entry)) per base (now (indices .entry))) ⌝ }
+    ensures { λ r. ⌜ now (picks .exit) ≡ placed at (indexed (now (xs .entry)) per base (now (indices .entry))) (now (picks .entry)) ⌝ }
+{
+    let mut end = at;
+    let mut j = 0;
+    while j < indices.len() {
+        let i = indices[j] as usize;
+        if named(xs, per, base, i) {
+            picks[end] = (base + i) as u32;
+            end += 1;
+        }
+        j += 1;
+    }
+    end
+}
+
+fn put_finite(xs: &[f32], per: usize, base: usize, picks: &mut [u32], at: usize) -> usize
+    requires { ⌜ ((base + per) * 3 ≤ length (now xs)) × (length (now xs) ≤ 196608) ⌝ }
+    requires { ⌜ at + length (finiteFrom (now xs) per base) ≤ length (now picks) ⌝ }
+    ensures { λ r. ⌜ r ≡ at + length (finiteFrom (now (xs .entry)) per base) ⌝ }
+    ensures { λ r. ⌜ now (picks .exit) ≡ placed at (finiteFrom (now (xs .entry)) per base) (now (picks .entry)) ⌝ }
+{
+    let mut end = at;
+    let mut k: usize = 0;
+    while k < per {
+        let atom = base + k;
+        if finite_atom(xs, atom) {
+            picks[end] = atom as u32;
+            end += 1;
+        }
+        k += 1;
+    }
+    end
+}
+
+// Writes what is picked of the copy at base, from entry `at` on, and answers where it ends.
+fn put_copy(
+    xs: &[f32],
+    per: usize,
+    base: usize,
+    indices: &[u32],
+    picks: &mut [u32],
+    at: usize,
+) -> usize
+    requires { ⌜ ((base + per) * 3 ≤ length (now xs)) × (length (now xs) ≤ 196608) ⌝ }
+    requires { ⌜ at + length (picked (now xs) per (now indices) base) ≤ length (now picks) ⌝ }
+    ensures { λ r. ⌜ r ≡ at + length (picked (now (xs .entry)) per (now (indices .entry)) base) ⌝ }
+    ensures { λ r. ⌜ now (picks .exit) ≡ placed at (picked (now (xs .entry)) per (now (indices .entry)) base) (now (picks .entry)) ⌝ }
+{
+    let end = put_indexed(xs, per, base, indices, picks, at);
+    if end > at {
+        return end;
+    }
+    put_finite(xs, per, base, picks, at)
+}
+
+// Writes both pick lists into tables that have room for them. A copy's picks end where the next one's start.
+pub fn fill(xs: &[f32], per: usize, indices: &[u32], starts: &mut [u32], picks: &mut [u32])
+    requires { ⌜ (length (now xs) ≤ 196608) × (length (joined (keptCopies (now xs) per (now indices))) ≤ 65536) ⌝ }
+    requires { ⌜ (length (keptCopies (now xs) per (now indices)) < length (now starts)) × (length (joined (keptCopies (now xs) per (now indices))) ≤ length (now picks)) ⌝ }
+    ensures { λ r. ⌜ now (starts .exit) ≡ over (startsOf (keptCopies (now (xs .entry)) per (now (indices .entry)))) (now (starts .entry)) ⌝ }
+    ensures { λ r. ⌜ now (picks .exit) ≡ over (joined (keptCopies (now (xs .entry)) per (now (indices .entry)))) (now (picks .entry)) ⌝ }
+{
+    starts[0] = 0;
+    if (per == 0) | (per > MAX_ATOMS) {
+        return;
+    }
+    let step = per * 3;
+    let mut left = xs.len();
+    let mut base: usize = 0;
+    let mut copies: usize = 0;
+    let mut at: usize = 0;
+    while left >= step {
+        let end = put_copy(xs, per, base, indices, picks, at);
+        if at < end {
+            copies += 1;
+            starts[copies] = end as u32;
+            at = end;
+        }
+        base += per;
+        left -= step;
+    }
+}
+
+// Select: 1, 2, 4, 5, 6, 7 in this order, or both pick lists. `per` is the atoms per copy.
+pub fn select(
+    solutes: &[f32],
+    per: usize,
+    indices: &[u32],
+    starts: &mut [u32],
+    picks: &mut [u32],
+) -> Selected
+    ensures answer { λ r. ⌜ refusalOf r ≡ selectRefusal (now (solutes .entry)) per (now (indices .entry)) (now (starts .entry)) (now (picks .entry)) ⌝ }
+    ensures values { λ r. ⌜ valuesOf r ≡ selectValues (now (solutes .entry)) per (now (indices .entry)) (now (starts .entry)) (now (picks .entry)) ⌝ }
+    ensures starts_after { λ r. ⌜ now (starts .exit) ≡ selectStarts (now (solutes .entry)) per (now (indices .entry)) (now (starts .entry)) (now (picks .entry)) ⌝ }
+    ensures picks_after { λ r. ⌜ now (picks .exit) ≡ selectPicks (now (solutes .entry)) per (now (indices .entry)) (now (starts .entry)) (now (picks .entry)) ⌝ }
+{
+    if cell::limits::ragged(solutes) {
+        return Selected::Refused(1);
+    }
+    if cell::limits::long(solutes) | (indices.len() > MAX_INDICES) {
+        return Selected::Refused(2);
+    }
+    if cell::limits::coordinate_over(solutes) {
+        return Selected::Refused(4);
+    }
+    let n = count(solutes, per, indices);
+    if n.copies > MAX_COPIES {
+        return Selected::Refused(5);
+    }
+    if n.picks > MAX_PICKS {
+        return Selected::Refused(6);
+    }
+    if (starts.len() < n.copies + 1) | (picks.len() < n.picks) {
+        return Selected::Refused(7);
+    }
+    fill(solutes, per, indices, starts, picks);
+    Selected::Kept {
+        copies: n.copies,
+        picks: n.picks,
+    }
+}

@@ -1,0 +1,108 @@
+// Whether pick lists are sound (document 01, refusal 8), and the refusals that every call on them makes first.
+use cell::Cell;
+use cell::limits::MAX_COPIES;
+use cell::limits::MAX_PICKS;
+ghost use mathlib.Core.Path.{_≡_};
+ghost use Prim.Native.Nat.{_+_, _≤_, _<_};
+ghost use lib.ListN.{length, getD};
+ghost use Rattle.cell.specs.Refusals.{firstRefusal};
+ghost use Rattle.selection.specs.Sound.{rises as risesOf, allFinite, pickList, soundStarts, soundLists};
+ghost use Rattle.selection.specs.Input.{inputRefusals};
+
+// Whether each number is below the next.
+fn rises(starts: &[u32]) -> bool
+    ensures { λ r. ⌜ r ≡ risesOf (now (starts .entry)) ⌝ }
+{
+    let mut i: usize = 1;
+    while i < starts.len() {
+        if starts[i - 1] >= starts[i] {
+            return false;
+        }
+        i += 1;
+    }
+    true
+}
+
+// Whether each pick names a finite atom.
+fn all_finite(xs: &[f32], picks: &[u32]) -> bool
+    ensures { λ r. ⌜ r ≡ allFinite (now (xs .entry)) (now (picks .entry)) ⌝ }
+{
+    let mut j = 0;
+    while j < picks.len() {
+        let p = picks[j] as usize;
+        if p * 3 + 2 >= xs.len() {
+            return false;
+        }
+        if !crate::finite_atom(xs, p) {
+            return false;
+        }
+        j += 1;
+    }
+    true
+}
+
+fn starts_sound(starts: &[u32], picks: usize) -> bool
+    ensures { λ r. ⌜ r ≡ soundStarts (now (starts .entry)) picks ⌝ }
+{
+    if starts.len() == 0 {
+        return false;
+    }
+    if starts.len() > MAX_COPIES + 1 {
+        return false;
+    }
+    let last = starts.len() - 1;
+    if starts[0] != 0 {
+        return false;
+    }
+    if !rises(starts) {
+        return false;
+    }
+    (starts[last] as usize == picks) & (picks <= MAX_PICKS)
+}
+
+// Whether starts and picks are sound pick lists of the solutes xs: what 8 asks for.
+pub fn is_sound(xs: &[f32], starts: &[u32], picks: &[u32]) -> bool
+    ensures { λ r. ⌜ r ≡ soundLists (now (xs .entry)) (now (starts .entry)) (now (picks .entry)) ⌝ }
+{
+    if !starts_sound(starts, picks.len()) {
+        return false;
+    }
+    all_finite(xs, picks)
+}
+
+// The first of 1, 2, 3, 4, 15 and 8 that holds, or 0. A call that takes no waters hands over an empty list.
+pub fn input_refusal(
+    cell: Cell,
+    solutes: &[f32],
+    waters: &[f32],
+    starts: &[u32],
+    picks: &[u32],
+) -> u32
+    ensures { λ r. ⌜ r ≡ firstRefusal (inputRefusals cell (now (solutes .entry)) (now (waters .entry)) (now (starts .entry)) (now (picks .entry))) ⌝ }
+{
+    let refusal = cell::limits::frame_refusal(cell, solutes, waters);
+    if refusal != 0 {
+        return refusal;
+    }
+    if !is_sound(solutes, starts, picks) {
+        return 8;
+    }
+    0
+}
+
+// A word of a table as an index.
+fn wide(x: u32) -> usize
+    ensures { λ r. ⌜ r ≡ x ⌝ }
+{
+    x as usize
+}
+
+// The picks of copy i; sound pick lists have what is asked.
+pub fn copy_picks<'a>(starts: &[u32], picks: &'a [u32], i: usize) -> &'a [u32]
+    requires { ⌜ (i + 1 < length (now starts)) × (getD (now starts) i 0 ≤ getD (now starts) (i + 1) 0) × (getD (now starts) (i + 1) 0 ≤ length (now picks)) ⌝ }
+    ensures { λ r. ⌜ now r ≡ pickList (now (starts .entry)) (now (picks .entry)) i ⌝ }
+{
+    let a = wide(starts[i]);
+    let b = wide(starts[i + 1]);
+    &picks[a..b]
+}
