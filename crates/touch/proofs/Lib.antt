@@ -1,0 +1,3 @@
+-- The laws that the proofs of this crate and of the layers above it cite.
+-- searches through lists, an element at a time
+pub mod Any

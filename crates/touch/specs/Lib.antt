@@ -1,0 +1,2 @@
+-- When two copies touch.
+pub mod Touch

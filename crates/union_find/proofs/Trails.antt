@@ -1,0 +1,88 @@
+-- A chain has fewer steps than there are copies, so a copy that reaches a root reaches it in n steps. Assumes nothing.
+use mathlib.Core.Path.{_≡_, refl, sym, ap, _∙_, subst}
+use mathlib.Core.Bool.{Bool, true, false, _||_}
+use mathlib.Core.List.{List}
+use Prim.Native.Nat.{ℕ, suc, _≤_, _<_, suc-le-suc}
+use native.Mathlib.Nat.{le-refl, le-of-lt}
+use native.Mathlib.Omega.{arith}
+use lib.ListN.{length}
+use lib.Dec.{eqb}
+use borrow.Author.Tests.{eq-eqb, ne-eqb, eqb-true}
+use Rattle.union_find.specs.Range.{count}
+use Rattle.union_find.specs.Parents.{rootOf, reachesRoot}
+use Rattle.union_find.proofs.Ranges.{count-add, count-le, count-zero}
+use Rattle.union_find.proofs.Forest.{Root, here, up, one-distance, is-root, root-is, walk-ends, Closed, Sound}
+
+-- the root is below n
+pub root-below : {p : List ℕ} {d i r : ℕ} → Closed p → i < length p → Root p d i r → r < length p
+root-below c l (here e) = l
+root-below {i = i} c l (up n w) = root-below c (c .at i l) w
+
+-- ---- distances are below n
+-- the chain from i has suc d copies, each at most d steps from a root
+pub record Trail (p : List ℕ) (n d : ℕ) : Type 0 where
+  pub on : ℕ → Bool
+  pub long : count n on ≡ suc d
+  pub near : (y : ℕ) → on y ≡ true → (e : ℕ) × (s : ℕ) × (e ≤ d) × Root p e y s
+
+eqb-refl : (x : ℕ) → eqb x x ≡ true
+eqb-refl x = eq-eqb x x refl
+
+pub trail : {p : List ℕ} {d i r : ℕ} → Closed p → i < length p → Root p d i r → Trail p (length p) d
+trail {p} c l (here {r} e) =
+    record {
+      on = λ y. eqb y r;
+      long =
+          count-add (length p) (λ y. false) (λ y. eqb y r) r l (λ k m n. sym (ne-eqb k r n)) refl (eqb-refl r)
+          ∙ ap suc (count-zero (length p) (λ y. false) (λ y m. refl));
+      near = λ y h. (0, r, le-refl 0, rw (eqb-true y r h) (here e));
+    }
+trail {p} {i = i} c l (up {d = d} {r = r} n w) =
+    let t = trail c (c .at i l) w in
+    record {
+      on = λ y. eqb y i || t .on y;
+      long =
+          count-add (length p) (t .on) (λ y. eqb y i || t .on y) i l (λ k m h. other (t .on k) (ne-eqb k i h)) (off t (t .on i) refl)
+          (rw (eqb-refl i))
+          ∙ ap suc (t .long);
+      near = λ y h. at t y (eqb y i) refl h;
+    }
+  where
+    other : {a : Bool} (b : Bool) → a ≡ false → b ≡ (a || b)
+    other b e = rw e
+
+    off : (t : Trail p (length p) d) (b : Bool) → t .on i ≡ b → b ≡ false
+    off t false e = refl
+    off t true e =
+        let q = t .near i e in
+        let z : suc d ≡ q .0 = one-distance (up n w) (q .3) in
+        let f : q .0 ≤ d = q .2 in
+        absurd (omega arith)
+
+    at : (t : Trail p (length p) d) (y : ℕ) (b : Bool) → eqb y i ≡ b → (b || t .on y) ≡ true → (e : ℕ) × (s : ℕ) × (e ≤ suc d) × Root p e y s
+    at t y true g h = (suc d, r, le-refl (suc d), rw (eqb-true y i g) (up n w))
+    at t y false g h = let q = t .near y h in (q .0, q .1, le-of-lt (suc-le-suc (q .2)), q .3)
+
+pub distance-below : {p : List ℕ} {d i r : ℕ} → Closed p → i < length p → Root p d i r → d < length p
+distance-below {p} c l w = let t = trail c l w in subst (λ (m : ℕ). m ≤ length p) (t .long) (count-le (length p) (t .on))
+
+-- parents that reach a root are sound
+pub sound-of : (q : List ℕ) → Closed q → ((x : ℕ) → x < length q → (d : ℕ) × (s : ℕ) × Root q d x s) → Sound q
+sound-of q c w =
+    record {
+      closed = c;
+      ends = λ x l. let v = w x l in rw (root-is (v .2) (le-of-lt (distance-below c l (v .2)))) (is-root (v .2));
+    }
+
+-- a root that is reached is the root
+pub root-of : {q : List ℕ} {d x s : ℕ} → Closed q → x < length q → Root q d x s → rootOf q x ≡ s
+root-of c l w = root-is w (le-of-lt (distance-below c l w))
+
+-- the test of one copy
+pub reaches-of : {p : List ℕ} {d x s : ℕ} → Closed p → x < length p → Root p d x s → reachesRoot p x ≡ true
+unfolding reachesRoot
+reaches-of {p} c l w = rw (root-of c l w) (eq-eqb _ _ (is-root w))
+
+pub reaches-root : (p : List ℕ) (x : ℕ) → reachesRoot p x ≡ true → (d : ℕ) × (s : ℕ) × Root p d x s
+unfolding reachesRoot rootOf
+reaches-root p x e = let w = walk-ends p (length p) x (eqb-true _ _ e) in (w .0, rootOf p x, w .2)

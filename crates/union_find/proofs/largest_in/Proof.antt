@@ -1,0 +1,45 @@
+-- `union_find::largest_in` meets its contract: what is lent to the search is a copy of the parents, and the search finds their largest set.
+-- Assumes nothing.
+use mathlib.Core.Path.{sym, ap, _∙_}
+use borrow.Author.Needs.{needs}
+use lib.ListN.{length}
+use Rattle.union_find.specs.Parents.{largestSet}
+use Rattle.union_find.proofs.largest_in.Statement.{statement}
+use Rattle.union_find.proofs.largest_in.Tie as tie
+
+copy-in-requires : tie.Need-copy-in-requires
+copy-in-requires c κs = search needs
+
+slice-relend-prefix-greatest-size : tie.Need-slice-relend-prefix-greatest-size
+slice-relend-prefix-greatest-size c = search needs
+
+slice-aggregate-greatest-size : tie.Need-slice-aggregate-greatest-size
+slice-aggregate-greatest-size c = sym (ap length (c .before .before .before .copy-in .ensures))
+
+greatest-size-requires : tie.Need-greatest-size-requires
+greatest-size-requires c κs =
+    let st = c .before .before .before .before .before .before .before .before .before in
+    rw (c .before .before .before .before .copy-in .ensures) ((st .pre .0 .0, st .pre .0 .1, st .pre .1 .0 .1), st .pre .1 .1)
+
+same-length : tie.Need-same-length
+same-length c = search needs
+
+same-length-2 : tie.Need-same-length-2
+same-length-2 c = search needs
+
+returns : tie.Need-returns
+returns c =
+    let b = c .before .before .before .before in
+    b .greatest-size .ensures ∙ ap largestSet (b .before .before .before .before .before .copy-in .ensures)
+
+pub largest-in-spec : {M : Type 1} → statement M
+largest-in-spec =
+    tie.close
+    (tie.spec
+    copy-in-requires
+    slice-relend-prefix-greatest-size
+    slice-aggregate-greatest-size
+    greatest-size-requires
+    same-length
+    same-length-2
+    returns)
