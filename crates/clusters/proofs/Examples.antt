@@ -1,0 +1,72 @@
+-- A run worked out by the definitions: four copies of one atom in the cell 0..16, of which 0 and 1, and 1 and 2, touch. The rows come
+-- in falling order, with refused calls between. Assumes nothing.
+use mathlib.Core.Path.{_≡_, refl}
+use mathlib.Core.List.{List, [], _∷_}
+use Prim.Native.Nat.{ℕ}
+use lib.ListN.{replicate}
+use lib.Ieee.{Float, binary32, ofBits, ofInt, add, sub, mul, div, lt, le, neg}
+use Rattle.numbers.specs.Whole.{roundOf}
+use Rattle.cell.specs.Cell.{extentOf, validAxis, valid, minImage, imageAxis, squared, minus, distance2, pointAt, finitePoint}
+use Rattle.cell.specs.Limits.{over, anyOver, ragged, long, longIndices, boundOver, lengths, counts, bounds, coordinates, validity, frameRefusals}
+use Rattle.cell.specs.Refusals.{firstRefusal}
+use Rattle.cell.proofs.Examples.{upTo}
+use Rattle.selection.specs.Selection.{finiteAtom}
+use Rattle.selection.specs.Sound.{rises, allFinite, pickList, soundStarts, soundLists, soundness}
+use Rattle.selection.specs.Input.{inputRefusals}
+use Rattle.touch.specs.Touch.{cutoff2, near, anyIn, anyPair, copiesTouch}
+use Rattle.union_find.specs.Range.{allBelow, count, greatest}
+use Rattle.union_find.specs.Parents.{walk, rootOf, shortened, compressed, joined, reachesRoot, soundParents, setSize, largestSet}
+use Rattle.clusters.specs.Table.{upFrom, opened, counted, contact, pass, rowTable, soundWords, soundTable}
+use Rattle.clusters.specs.Answers.{openRefusals, openRefusal, openLeaves, tableRefusals, rowRefusal, rowLeaves, closeRefusals, closeRefusal, ratio, threeFractions, tableFractions, closeFractions}
+use Rattle.clusters.specs.Order.{Input, touchOf, Call, row, close, reopen, answer, leaves, after}
+
+-- the copies stand at (2, 2, 2), (4, 2, 2), (8, 2, 2) and (2, 8, 2)
+abbrev pub two : Float
+two = ofBits binary32 0x4000_0000
+
+abbrev pub four : Float
+four = ofBits binary32 0x4080_0000
+
+abbrev pub eight : Float
+eight = ofBits binary32 0x4100_0000
+
+pub input : Input
+input =
+    record {
+      cell = upTo 0x4180_0000;
+      solutes = two ∷ two ∷ two ∷ four ∷ two ∷ two ∷ eight ∷ two ∷ two ∷ two ∷ eight ∷ two ∷ [];
+      starts = 0 ∷ 1 ∷ 2 ∷ 3 ∷ 4 ∷ [];
+      picks = 0 ∷ 1 ∷ 2 ∷ 3 ∷ [];
+    }
+
+-- a table of 15 words, one more than four copies need, opened for four copies
+abbrev pub lent : List ℕ
+lent = replicate 15 9
+
+abbrev pub opening : List ℕ
+opening = openLeaves 4 lent
+
+-- what each call of a list answers
+pub answersOf : Input → List ℕ → List Call → List ℕ
+answersOf f t [] = []
+answersOf f t (c ∷ cs) = answer f t c ∷ answersOf f (leaves f t c) cs
+
+abbrev pub calls : List Call
+calls = row 3 ∷ row 2 ∷ row 1 ∷ row 7 ∷ row 1 ∷ close ∷ reopen 4097 ∷ reopen 5 ∷ row 0 ∷ close ∷ []
+
+pub record Worked : Type 0 where
+  -- the row 7 is past the copies, the second row 1 comes again, Close comes too early, 4,097 copies are too many and five need 17 words
+  pub answers : answersOf input opening calls ≡ 0 ∷ 0 ∷ 0 ∷ 10 ∷ 11 ∷ 12 ∷ 5 ∷ 7 ∷ 0 ∷ 0 ∷ []
+  -- n and the contacts, the parents (0 over 1, 1 over 2), the degrees, the marks, and the word past the table
+  pub table : after input opening calls ≡ 4 ∷ 2 ∷ 0 ∷ 0 ∷ 1 ∷ 3 ∷ 1 ∷ 2 ∷ 1 ∷ 0 ∷ 1 ∷ 1 ∷ 1 ∷ 1 ∷ 9 ∷ []
+  -- 2 of 3, 3 of 4 and 2 of 6
+  pub fractions : closeFractions (after input opening calls) ≡ ofBits binary32 0x3f2a_aaab ∷ ofBits binary32 0x3f40_0000 ∷ ofBits binary32 0x3eaa_aaab ∷ []
+
+pub worked : Worked
+unfolding input answersOf firstRefusal inputRefusals frameRefusals lengths counts bounds coordinates validity soundness ragged long longIndices
+    boundOver anyOver over valid validAxis extentOf soundLists soundStarts rises allFinite finiteAtom finitePoint pointAt touchOf copiesTouch
+    pickList anyPair anyIn near cutoff2 distance2 squared minImage imageAxis minus roundOf allBelow count greatest walk rootOf shortened
+    compressed joined reachesRoot soundParents setSize largestSet upFrom opened counted contact pass rowTable soundWords soundTable
+    openRefusals openRefusal openLeaves tableRefusals rowRefusal rowLeaves closeRefusals closeRefusal ratio threeFractions tableFractions
+    closeFractions answer leaves after ofBits ofInt add sub mul div lt le neg
+worked = record { answers = refl; table = refl; fractions = refl }

@@ -1,0 +1,102 @@
+-- What Row and Close answer on a table that holds a graph: neither 7 nor 9 comes, and Close's numbers are the graph's.
+-- Assumes nothing.
+use mathlib.Core.Path.{_≡_, refl, sym, ap, ap₂, _∙_, subst}
+use mathlib.Core.Bool.{Bool, true, false, cond, not, _&&_}
+use mathlib.Core.Logic.{_⊎_, ⊎-elim}
+use mathlib.Core.List.{List}
+use Prim.Native.Nat.{ℕ, zero, suc, _≤_, _<_}
+use native.Mathlib.Nat.{le-refl}
+use native.Mathlib.Omega.{arith}
+use native.Mathlib.Decide.{decLe}
+use lib.ListN.{length}
+use lib.Dec.{eqb, ltb, leb}
+use borrow.Author.Tests.{lt-ltb, le-ltb, le-leb, lt-leb}
+use Rattle.cell.specs.Refusals.{firstRefusal}
+use Rattle.union_find.specs.Range.{bit, allBelow, count}
+use Rattle.union_find.specs.Parents.{largestSet}
+use Rattle.union_find.proofs.Forest.{sound-parents}
+use Rattle.union_find.proofs.Ranges.{all-true, count-same, bit-le}
+use Rattle.clusters.specs.Table.{parents, degree, mark, words, soundWords, soundTable}
+use Rattle.clusters.specs.Answers.{tableRefusals, closeRefusal, closeFractions, threeFractions, tableFractions}
+use Rattle.clusters.specs.Graph.{degreeOf, contactsOf, Largest}
+use Rattle.clusters.proofs.Parts.{parents-length}
+use Rattle.clusters.proofs.Holds.{Holds}
+use Rattle.clusters.proofs.Sums.{contacts-few, degree-below}
+use Rattle.clusters.proofs.Checks.{words-right, table-words}
+use Rattle.clusters.proofs.Refusals.{table-chain}
+use Rattle.clusters.proofs.Closes.{close-last, gives}
+use Rattle.clusters.proofs.Largest.{largest-of, one-largest}
+
+all-same : (n : ℕ) (f g : ℕ → Bool) → ((k : ℕ) → k < n → f k ≡ g k) → allBelow n f ≡ allBelow n g
+unfolding allBelow
+all-same zero f g h = refl
+all-same (suc n) f g h = ap₂ _&&_ (all-same n f g (λ k l. h k (omega arith))) (h n (le-refl (suc n)))
+
+-- below two copies the largest cluster does not count
+under-two : (n m k c e : ℕ) → n < 2 → threeFractions n m c e ≡ threeFractions n k c e
+unfolding threeFractions
+under-two n m k c e l = rw (lt-ltb n 2 l)
+
+mark-bit : (b : Bool) → eqb (bit b) 1 ≡ b
+mark-bit true = refl
+mark-bit false = refl
+
+module _ {n : ℕ} {g : ℕ → ℕ → Bool} {acc : ℕ → Bool} {t : List ℕ} (s : Holds n g acc t) where
+  -- ---- the table is sound
+  size : length (parents n t) ≡ n
+  size = parents-length n t (omega (arith, s .long))
+
+  words-at : (i : ℕ) → i < n → soundWords n t i ≡ true
+  words-at i l =
+      words-right n t i (rw (s .degrees i l) (degree-below n g i (s .inside) l)) (rw (s .marks i l) (bit-le (acc i)))
+
+  sound-table : soundTable n t ≡ true
+  sound-table =
+      sym (table-words n t (s .own) (rw (s .contacts-are) (contacts-few n g (s .inside))) (sound-parents (parents n t) .1 (s .sound)))
+      ∙ all-true n (soundWords n t) words-at
+
+  -- ---- a row: 10, 11 or none
+  mark-test : (i : ℕ) → i < n → eqb (mark n t i) 1 ≡ acc i
+  mark-test i l = rw (s .marks i l) (mark-bit (acc i))
+
+  pub row-answer : (i : ℕ) → firstRefusal (tableRefusals n t i) ≡ cond (leb n i) 10 (cond (acc i) 11 0)
+  row-answer i = table-chain n t i ∙ rw (le-ltb (length t) (words n) (s .long), sound-table) (go (decLe n i))
+    where
+      go : Dec (n ≤ i) → _≡_ {A = ℕ} (cond (leb n i) 10 (cond (eqb (mark n t i) 1) 11 0)) (cond (leb n i) 10 (cond (acc i) 11 0))
+      go (yes h) = rw (le-leb n i h)
+      go (no h) = rw (lt-leb n i (omega arith), mark-test i (omega arith))
+
+  -- ---- a close: 12 or none
+  all-marks : allBelow n (λ i. eqb (mark n t i) 1) ≡ allBelow n acc
+  all-marks = all-same n (λ i. eqb (mark n t i) 1) acc mark-test
+
+  pub close-answer : n ≤ 4096 → closeRefusal t ≡ cond (not (allBelow n acc)) 12 0
+  close-answer l = close-last t n (sym (s .own)) (omega (arith, s .long)) (s .long) l true (sym sound-table) refl ∙ rw all-marks
+
+  fractions-are : tableFractions t ≡ threeFractions n (largestSet (parents n t)) (count n (λ i. ltb 0 (degreeOf n g i))) (contactsOf n g)
+  unfolding tableFractions
+  fractions-are =
+      rw (
+        s .own,
+        s .contacts-are,
+        count-same n (λ i. ltb 0 (degree n t i)) (λ i. ltb 0 (degreeOf n g i)) (λ i l. ap (ltb 0) (s .degrees i l)),
+      )
+
+  -- ---- the largest cluster
+  pub largest-held : 0 < n → Largest n g (largestSet (parents n t))
+  largest-held l =
+      subst (λ (k : ℕ). Largest k g (largestSet (parents n t))) size
+      (largest-of (parents n t) (s .sound) (rw size (s .sets)) (rw size l))
+
+  -- the fractions, for the size m of the largest cluster
+  pub close-gives : n ≤ 4096 → ((i : ℕ) → i < n → acc i ≡ true) → (m : ℕ) → (n < 2) ⊎ Largest n g m
+      → closeFractions t ≡ threeFractions n m (count n (λ i. ltb 0 (degreeOf n g i))) (contactsOf n g)
+  close-gives l a m c =
+      sym (gives t n (sym (s .own)) (omega (arith, s .long)) (s .long) l true (sym sound-table) refl true (sym (all-marks ∙ all-true n acc a)) refl 0 (tableFractions t) refl refl .1)
+      ∙ fractions-are
+      ∙ ⊎-elim few (λ z. ap (λ (k : ℕ). threeFractions n k (count n (λ i. ltb 0 (degreeOf n g i))) (contactsOf n g)) (one-largest (largest-held (omega (arith, z .below))) z)) c
+    where
+      few : n < 2
+          → threeFractions n (largestSet (parents n t)) (count n (λ i. ltb 0 (degreeOf n g i))) (contactsOf n g)
+          ≡ threeFractions n m (count n (λ i. ltb 0 (degreeOf n g i))) (contactsOf n g)
+      few h = under-two n (largestSet (parents n t)) m (count n (λ i. ltb 0 (degreeOf n g i))) (contactsOf n g) h

@@ -1,0 +1,41 @@
+-- Laws that belong to no one function: first the table and the graph, then the order rule, last what serves the code's steps.
+-- chains of contacts are an equivalence, and one contact more joins two of them
+pub mod Chains
+-- parents, degrees and marks are each their own part of the table
+pub mod Parts
+-- what one contact writes
+pub mod Contacts
+-- a table that holds a graph, and the same with one contact more
+pub mod Holds
+-- how many contacts a graph can have
+pub mod Sums
+-- an accepted row adds its touches to the graph that a table holds
+pub mod Rows
+-- a freshly opened table holds the graph with no contact
+pub mod Opening
+-- a row keeps the table's length
+pub mod Lengths
+-- the largest set with one root is the largest cluster
+pub mod Largest
+-- what Row and Close answer on a table that holds a graph
+pub mod Held
+-- one call: it keeps the table equal to the graph of the accepted rows
+pub mod Calls
+-- the order rule, and that the fractions do not depend on the order
+pub mod OrderRule
+-- a run worked out: ten calls on four copies
+pub mod Examples
+-- what a refusal leaves; Open's refusals; Row's refusals of a table
+pub mod Refusals
+-- Row's refusals, test by test
+pub mod RowRefusals
+-- Close's refusals, test by test, and its fractions
+pub mod Closes
+-- the test of a table, part by part
+pub mod Checks
+-- the loops that open a table
+pub mod Fills
+-- the steps of `add_contact`
+pub mod Steps
+-- the loop of a row
+pub mod Passes

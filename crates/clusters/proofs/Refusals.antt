@@ -1,0 +1,64 @@
+-- What Open and Row answer and leave, test by test, and what a refusal leaves of any call. Assumes nothing.
+use mathlib.Core.Path.{_≡_, refl, sym, _∙_}
+use mathlib.Core.Bool.{cond, not}
+use mathlib.Core.List.{List}
+use Prim.Native.Nat.{ℕ, zero, suc, _≤_, _<_}
+use native.Mathlib.Omega.{arith}
+use native.Mathlib.Decide.{decLe}
+use lib.ListN.{length}
+use lib.Dec.{eqb, ltb, leb}
+use borrow.Author.Tests.{lt-ltb, le-ltb}
+use Rattle.cell.specs.Refusals.{firstRefusal}
+use Rattle.cell.specs.Tables.{unlessRefused}
+use Rattle.clusters.specs.Table.{mark, words, opened, soundTable}
+use Rattle.clusters.specs.Answers.{openRefusals, openRefusal, openLeaves, tableRefusals}
+
+-- ---- any call
+pub at-refusal : {A : Type 0} (r : ℕ) (x y : A) → (r ≡ 0 → ⊥) → unlessRefused r x y ≡ y
+at-refusal zero x y n = absurd (n refl)
+at-refusal (suc r) x y n = refl
+
+pub at-none : {A : Type 0} (r : ℕ) (x y : A) → r ≡ 0 → unlessRefused r x y ≡ x
+at-none r x y e = rw e
+
+-- ---- Open
+module _ (n : ℕ) (t : List ℕ) where
+  refused : (r : ℕ) → (r ≡ 0 → ⊥) → openRefusal n t ≡ r → (r ≡ openRefusal n t) × (t ≡ openLeaves n t)
+  unfolding openLeaves
+  refused r m e = (sym e, sym (at-refusal (openRefusal n t) (opened n t) t (λ z. m (sym e ∙ z))))
+
+  pub open-many : 4096 < n → (5 ≡ openRefusal n t) × (t ≡ openLeaves n t)
+  unfolding openRefusal openRefusals firstRefusal
+  open-many l = refused 5 (λ z. omega arith) (rw (lt-ltb 4096 n l))
+
+  pub open-short : n ≤ 4096 → length t < words n → (7 ≡ openRefusal n t) × (t ≡ openLeaves n t)
+  unfolding openRefusal openRefusals firstRefusal
+  open-short l h = refused 7 (λ z. omega arith) (rw (le-ltb 4096 n l, lt-ltb (length t) (words n) h))
+
+  pub open-none : n ≤ 4096 → words n ≤ length t → openRefusal n t ≡ 0
+  unfolding openRefusal openRefusals firstRefusal
+  open-none l h = rw (le-ltb 4096 n l, le-ltb (length t) (words n) h)
+
+  pub open-taken : n ≤ 4096 → words n ≤ length t → (x : List ℕ) → x ≡ opened n t → (0 ≡ openRefusal n t) × (x ≡ openLeaves n t)
+  unfolding openLeaves
+  open-taken l h x e = (sym (open-none l h), e ∙ sym (at-none (openRefusal n t) (opened n t) t (open-none l h)))
+
+-- an accepted Open had room
+pub open-room : (n : ℕ) (t : List ℕ) → openRefusal n t ≡ 0 → (n ≤ 4096) × (words n ≤ length t)
+open-room n t e = go (decLe n 4096) (decLe (words n) (length t))
+  where
+    go : Dec (n ≤ 4096) → Dec (words n ≤ length t) → (n ≤ 4096) × (words n ≤ length t)
+    go (yes l) (yes h) = (l, h)
+    go (yes l) (no h) = absurd (omega (arith, open-short n t l (omega arith) .0 ∙ e))
+    go (no l) d = absurd (omega (arith, open-many n t (omega arith) .0 ∙ e))
+
+-- Open asks only for the table's length
+pub open-same : (n : ℕ) (t u : List ℕ) → length t ≡ length u → openRefusal n t ≡ openRefusal n u
+unfolding openRefusal openRefusals
+open-same n t u e = rw e
+
+-- ---- Row's refusals of a table, in their order
+pub table-chain : (n : ℕ) (t : List ℕ) (i : ℕ) → firstRefusal (tableRefusals n t i)
+    ≡ cond (ltb (length t) (words n)) 7 (cond (not (soundTable n t)) 9 (cond (leb n i) 10 (cond (eqb (mark n t i) 1) 11 0)))
+unfolding tableRefusals firstRefusal
+table-chain n t i = refl

@@ -1,0 +1,85 @@
+-- What Row answers and leaves, test by test. Assumes nothing.
+use mathlib.Core.Path.{_≡_, sym, _∙_}
+use mathlib.Core.Bool.{Bool, true, false, cond, not}
+use mathlib.Core.List.{List, []}
+use Prim.Native.Nat.{ℕ, _≤_, _<_}
+use native.Mathlib.Omega.{arith}
+use lib.ListN.{length}
+use lib.Dec.{eqb, ltb, leb}
+use lib.Ieee.{Float}
+use borrow.Author.Tests.{eq-eqb, ne-eqb, lt-ltb, le-ltb, le-leb, lt-leb}
+use Rattle.cell.specs.declared.Cell.{Cell}
+use Rattle.cell.specs.Refusals.{Refusal, firstRefusal}
+use Rattle.cell.proofs.FirstRefusal.{append-hit, append-skip}
+use Rattle.selection.specs.Sound.{copiesIn, soundLists}
+use Rattle.selection.specs.Input.{inputRefusals}
+use Rattle.selection.proofs.SoundLists.{Lists, sound-lists}
+use Rattle.selection.proofs.InputRefusals.{input-numbered, input-accepted}
+use Rattle.touch.specs.Touch.{copiesTouch}
+use Rattle.clusters.specs.Table.{mark, words, rowTable, soundTable}
+use Rattle.clusters.specs.Answers.{tableRefusals, rowRefusal, rowLeaves}
+use Rattle.clusters.proofs.Refusals.{at-refusal, at-none, table-chain}
+
+-- input that nothing refuses has sound pick lists
+pub input-sound : (c : Cell) (xs : List Float) (starts picks : List ℕ) (r : ℕ) → r ≡ firstRefusal (inputRefusals c xs [] starts picks) → r ≡ 0
+    → soundLists xs starts picks ≡ true
+input-sound c xs starts picks r found none = input-accepted c xs [] starts picks (sym found ∙ none) .1
+
+pub input-lists : (c : Cell) (xs : List Float) (starts picks : List ℕ) (r : ℕ) → r ≡ firstRefusal (inputRefusals c xs [] starts picks) → r ≡ 0
+    → Lists xs starts picks
+input-lists c xs starts picks r found none = sound-lists xs starts picks (input-sound c xs starts picks r found none)
+
+module _ (c : Cell) (xs : List Float) (starts picks t : List ℕ) (i : ℕ) where
+  abbrev n : ℕ
+  n = copiesIn starts
+
+  inputs : List Refusal
+  inputs = inputRefusals c xs [] starts picks
+
+  written : List ℕ
+  written = rowTable (copiesTouch c xs starts picks) (copiesIn starts) i t
+
+  refused : (r : ℕ) → (r ≡ 0 → ⊥) → rowRefusal c xs starts picks t i ≡ r → (r ≡ rowRefusal c xs starts picks t i) × (t ≡ rowLeaves c xs starts picks t i)
+  unfolding rowLeaves written
+  refused r m e = (sym e, sym (at-refusal (rowRefusal c xs starts picks t i) written t (λ z. m (sym e ∙ z))))
+
+  -- the tests as the code makes them: r is the first refusal of the input
+  module _ (r : ℕ) (found : r ≡ firstRefusal (inputRefusals c xs [] starts picks)) where
+    -- 1, 2, 3, 4, 15 and 8
+    pub row-input : (r ≡ 0 → ⊥) → (r ≡ rowRefusal c xs starts picks t i) × (t ≡ rowLeaves c xs starts picks t i)
+    unfolding rowRefusal inputs
+    row-input m =
+        refused r m (append-hit inputs (tableRefusals (copiesIn starts) t i) (input-numbered c xs [] starts picks) (λ z. m (found ∙ z)) ∙ sym found)
+
+    module _ (none : r ≡ 0) where
+      -- the table decides
+      chain : rowRefusal c xs starts picks t i
+          ≡ cond (ltb (length t) (words n)) 7 (cond (not (soundTable n t)) 9 (cond (leb n i) 10 (cond (eqb (mark n t i) 1) 11 0)))
+      unfolding rowRefusal inputs
+      chain =
+          append-skip inputs (tableRefusals n t i) (input-numbered c xs [] starts picks) (sym found ∙ none) ∙ table-chain n t i
+
+      pub row-short : length t < words n → (7 ≡ rowRefusal c xs starts picks t i) × (t ≡ rowLeaves c xs starts picks t i)
+      row-short l = refused 7 (λ z. omega arith) (chain ∙ rw (lt-ltb (length t) (words n) l))
+
+      module _ (long : words n ≤ length t) (b : Bool) (tested : b ≡ soundTable n t) where
+        pub row-unsound : not b ≡ true → (9 ≡ rowRefusal c xs starts picks t i) × (t ≡ rowLeaves c xs starts picks t i)
+        row-unsound u = refused 9 (λ z. omega arith) (chain ∙ rw (le-ltb (length t) (words n) long, ← tested, u))
+
+        module _ (sound : not b ≡ false) where
+          pub row-beyond : n ≤ i → (10 ≡ rowRefusal c xs starts picks t i) × (t ≡ rowLeaves c xs starts picks t i)
+          row-beyond h = refused 10 (λ z. omega arith) (chain ∙ rw (le-ltb (length t) (words n) long, ← tested, sound, le-leb n i h))
+
+          module _ (within : i < n) where
+            pub row-marked : mark n t i ≡ 1 → (11 ≡ rowRefusal c xs starts picks t i) × (t ≡ rowLeaves c xs starts picks t i)
+            row-marked m =
+                refused 11 (λ z. omega arith)
+                (chain ∙ rw (le-ltb (length t) (words n) long, ← tested, sound, lt-leb n i within, eq-eqb (mark n t i) 1 m))
+
+            accepted : (mark n t i ≡ 1 → ⊥) → rowRefusal c xs starts picks t i ≡ 0
+            accepted m = chain ∙ rw (le-ltb (length t) (words n) long, ← tested, sound, lt-leb n i within, ne-eqb (mark n t i) 1 m)
+
+            pub row-taken : (mark n t i ≡ 1 → ⊥) → (x : List ℕ) → x ≡ rowTable (copiesTouch c xs starts picks) n i t
+                → (0 ≡ rowRefusal c xs starts picks t i) × (x ≡ rowLeaves c xs starts picks t i)
+            unfolding rowLeaves written
+            row-taken m x e = (sym (accepted m), e ∙ sym (at-none (rowRefusal c xs starts picks t i) written t (accepted m)))

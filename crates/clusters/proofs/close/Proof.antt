@@ -1,0 +1,91 @@
+-- `clusters::close` meets its contract: each return knows the tests before it (Closes); `e1` is the place past the first
+-- test, `e2` past the second, and so on. Assumes nothing.
+use mathlib.Core.Path.{sym, _∙_}
+use native.Mathlib.Omega.{arith}
+use borrow.Author.Tests.{not-false}
+use Rattle.clusters.proofs.Closes.{no-words, short, many-copies, unsound, waits, gives}
+use borrow.Author.Needs.{needs}
+use Rattle.clusters.proofs.close.Statement.{statement}
+use Rattle.clusters.proofs.close.Tie as tie
+
+returns : tie.Need-returns
+returns c = no-words _ (c .if1 .taken)
+
+shared-slice-read-wide : tie.Need-shared-slice-read-wide
+shared-slice-read-wide c = search needs
+
+wide-requires : tie.Need-wide-requires
+wide-requires c κs = search needs
+
+mul-if2 : tie.Need-mul-if2
+mul-if2 c = omega (arith, c .before .shared-slice-known2 .given 0, c .wide .ensures)
+
+add-if2 : tie.Need-add-if2
+add-if2 c = omega (arith, c .before .shared-slice-known2 .given 0, c .wide .ensures)
+
+returns-2 : tie.Need-returns-2
+returns-2 c =
+    let e1 = c .before .before .before in
+    short _ _ (c .before .wide .ensures) (e1 .if1 .left) (c .if2 .taken)
+
+returns-3 : tie.Need-returns-3
+returns-3 c =
+    let e2 = c .before in
+    let e1 = e2 .before .before .before in
+    many-copies _ _ (e2 .before .wide .ensures) (e1 .if1 .left) (e2 .if2 .left) (c .if3 .taken)
+
+table-sound-requires : tie.Need-table-sound-requires
+table-sound-requires c κs = search needs
+
+returns-4 : tie.Need-returns-4
+returns-4 c =
+    let e3 = c .before .before in
+    let e2 = e3 .before in
+    let e1 = e2 .before .before .before in
+    unsound _ _ (e2 .before .wide .ensures) (e1 .if1 .left) (e2 .if2 .left) (e3 .if3 .left) _ (c .before .table-sound .ensures) (c .if4 .taken)
+
+all-marked-requires : tie.Need-all-marked-requires
+all-marked-requires c κs = search needs
+
+returns-5 : tie.Need-returns-5
+returns-5 c =
+    let e4 = c .before .before in
+    let e3 = e4 .before .before in
+    let e2 = e3 .before in
+    let e1 = e2 .before .before .before in
+    waits _ _ (e2 .before .wide .ensures) (e1 .if1 .left) (e2 .if2 .left) (e3 .if3 .left) _ (e4 .before .table-sound .ensures) (e4 .if4 .left)
+    _ (c .before .all-marked .ensures) (c .if5 .taken)
+
+fractions-requires : tie.Need-fractions-requires
+fractions-requires c κs =
+    let e4 = c .before .before in
+    let e3 = e4 .before .before in
+    ((e3 .if3 .left, e3 .before .if2 .left), sym (e4 .before .table-sound .ensures) ∙ not-false _ (e4 .if4 .left))
+
+returns-6 : tie.Need-returns-6
+returns-6 c =
+    let e5 = c .before in
+    let e4 = e5 .before .before in
+    let e3 = e4 .before .before in
+    let e2 = e3 .before in
+    let e1 = e2 .before .before .before in
+    gives _ _ (e2 .before .wide .ensures) (e1 .if1 .left) (e2 .if2 .left) (e3 .if3 .left) _ (e4 .before .table-sound .ensures) (e4 .if4 .left)
+    _ (e5 .before .all-marked .ensures) (e5 .if5 .left) _ _ (c .fractions .ensures .0) (c .fractions .ensures .1)
+
+pub close-spec : {M : Type 1} → statement M
+close-spec =
+    tie.close
+    (tie.spec
+    returns
+    shared-slice-read-wide
+    wide-requires
+    mul-if2
+    add-if2
+    returns-2
+    returns-3
+    table-sound-requires
+    returns-4
+    all-marked-requires
+    returns-5
+    fractions-requires
+    returns-6)
