@@ -1,0 +1,70 @@
+-- `dispersion::row_sum` meets its contract. The loop's invariant: the centers from `j` on, added to the sum, give the row's. Assumes nothing.
+use Prim.Native.Nat.{_+_, _≤_, _<_, _-_}
+use mathlib.Core.Path.{_≡_, sym, _∙_}
+use borrow.Author.Needs.{needs}
+use Rattle.cell.specs.Cell.{pointAt}
+use Rattle.dispersion.specs.Dispersion.{rowSum}
+use Rattle.dispersion.proofs.Sums.{row-more, row-none}
+use Rattle.dispersion.proofs.row_sum.Statement.{statement}
+use Rattle.dispersion.proofs.row_sum.Tie as tie
+
+abbrev Inv-loop : tie.InvT-loop
+Inv-loop e centers n i s a sum₀ j₀ sum j = (a ≡ pointAt centers i) × (i < j) × (j ≤ n) × (rowSum e centers i (n - j) j sum ≡ rowSum e centers i (n - (i + 1)) (i + 1) s)
+
+abbrev μ-loop : tie.MeasureT-loop
+μ-loop e centers n i s a sum₀ j₀ sum j = n - j
+
+point-requires : tie.Need-point-requires Inv-loop μ-loop
+point-requires c κs = search needs
+
+add-j : tie.Need-add-j Inv-loop μ-loop
+add-j c = search needs
+
+loop-holds : tie.Need-loop-holds Inv-loop μ-loop
+loop-holds c = search needs
+
+point-requires-2 : tie.Need-point-requires-2 Inv-loop μ-loop
+point-requires-2 c κs = search needs
+
+distance-squared-requires : tie.Need-distance-squared-requires Inv-loop μ-loop
+distance-squared-requires c κs = search needs
+
+widen-requires : tie.Need-widen-requires Inv-loop μ-loop
+widen-requires c κs = search needs
+
+add-j-2 : tie.Need-add-j-2 Inv-loop μ-loop
+add-j-2 c = search needs
+
+loop-less : tie.Need-loop-less Inv-loop μ-loop
+loop-less c = search needs
+
+loop-again : tie.Need-loop-again Inv-loop μ-loop
+loop-again c =
+    let inside = c .before .before .before in
+    let at = inside .before in
+    let st = at .before .before .before in
+    let next = row-more (st .args .e) (st .args .centers .now) (st .args .n) (at .loop .j) (at .loop .sum) (st .args .i) (inside .loop-test .taken) in
+    (at .loop .inv .0, search needs, search needs, rw (c .widen .ensures, c .before .distance-squared .ensures, c .before .before .point2 .ensures, at .loop .inv .0) (sym next ∙ at .loop .inv .3))
+
+returns : tie.Need-returns Inv-loop μ-loop
+returns c =
+    let at = c .before in
+    let st = at .before .before .before in
+    sym (row-none (st .args .e) (st .args .centers .now) (st .args .n) (at .loop .j) (at .loop .sum) (st .args .i) (c .loop-test .left)) ∙ at .loop .inv .3
+
+pub row-sum-spec : {M : Type 1} → statement M
+row-sum-spec =
+    tie.close
+    (tie.spec
+    Inv-loop
+    μ-loop
+    point-requires
+    add-j
+    loop-holds
+    point-requires-2
+    distance-squared-requires
+    widen-requires
+    add-j-2
+    loop-less
+    loop-again
+    returns)

@@ -1,0 +1,37 @@
+-- `dispersion::score` meets its contract. Each `return` is a case of the definition. Assumes nothing.
+use borrow.Author.Needs.{needs}
+use Rattle.dispersion.proofs.ScoreList.{score-alone, score-small, score-ratio}
+use Rattle.dispersion.proofs.score.Statement.{statement}
+use Rattle.dispersion.proofs.score.Tie as tie
+
+returns : tie.Need-returns
+returns c =
+    let st = c .before .before in
+    score-alone (st .args .e) (st .args .centers .now) (st .args .n) (c .if1 .taken)
+
+expected-requires : tie.Need-expected-requires
+expected-requires c κs = search needs
+
+returns-2 : tie.Need-returns-2
+returns-2 c =
+    let some = c .before .before in
+    let st = some .before .before in
+    score-small (st .args .e) (st .args .centers .now) (st .args .n) (some .if1 .left) (cc (c .before .expected .ensures, c .if2 .taken))
+
+observed-requires : tie.Need-observed-requires
+observed-requires c κs = search needs
+
+clamp-requires : tie.Need-clamp-requires
+clamp-requires c κs = search needs
+
+returns-3 : tie.Need-returns-3
+returns-3 c =
+    let even = c .before .before .before in
+    let st = even .before .before .before in
+    let ratio = score-ratio (st .args .e) (st .args .centers .now) (st .args .n) (even .before .if1 .left) (cc (even .expected .ensures, c .before .before .if2 .left)) in
+    cc (c .clamp .ensures, c .before .observed .ensures, even .expected .ensures, ratio)
+
+pub score-spec : {M : Type 1} → statement M
+score-spec =
+    tie.close
+    (tie.spec returns expected-requires returns-2 observed-requires clamp-requires returns-3)

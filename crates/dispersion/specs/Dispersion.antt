@@ -1,0 +1,67 @@
+-- Document 01, 'Centers and dispersion' and Dispersion. Definitions only. Assumes nothing.
+use Prim.Native.Nat.{ℕ, zero, suc, _+_, _-_, _*_, _/_}
+use mathlib.Core.Bool.{cond}
+use mathlib.Core.List.{List, []}
+use lib.Dec.{ltb}
+use lib.IntN.{pos}
+use lib.Ieee.{Float, binary32, binary64, add, div, lt, le, ofInt, ofBits}
+use Rattle.numbers.specs.Convert.{narrowOf}
+use Rattle.numbers.specs.Root.{sqrtOf}
+use Rattle.cell.specs.declared.Vec3.{Vec3}
+use Rattle.cell.specs.declared.Cell.{Cell}
+use Rattle.cell.specs.Cell.{epsilon, extentOf, squared, distance2, pointAt}
+use Rattle.cell.specs.Refusals.{firstRefusal}
+use Rattle.selection.specs.Sound.{copiesIn}
+use Rattle.selection.specs.Input.{inputRefusals}
+use Rattle.dispersion.specs.Centers.{centersOf}
+use Rattle.dispersion.specs.declared.Dispersed.{Dispersed}
+use Rattle.dispersion.specs.declared.Dispersed.the-variants.{Score, Refused}
+
+-- x to 0 .. 1
+unfoldable pub clamped : Float → Float
+clamped x = cond (lt x (ofBits binary32 0)) (ofBits binary32 0) (cond (lt (ofBits binary32 0x3f80_0000) x) (ofBits binary32 0x3f80_0000) x)
+
+-- sqrt((ex * ex + ey * ey + ez * ez) / 12)
+unfoldable pub expectedOf : Vec3 → Float
+expectedOf e = sqrtOf binary32 (div binary32 (squared e) (ofBits binary32 0x4140_0000))
+
+-- s and the squared distances of center i to k centers from j on, in f64, in order
+unfoldable pub rowSum : Vec3 → List Float → ℕ → ℕ → ℕ → Float → Float
+rowSum e cs i zero j s = s
+rowSum e cs i (suc k) j s = rowSum e cs i k (j + 1) (add binary64 s (distance2 e (pointAt cs i) (pointAt cs j)))
+
+-- the same for the pairs i < j of the last k of n centers
+unfoldable pub pairSum : Vec3 → List Float → ℕ → ℕ → ℕ → Float → Float
+unfolding rowSum
+pairSum e cs n zero i s = s
+pairSum e cs n (suc k) i s = pairSum e cs n k (i + 1) (rowSum e cs i (n - (i + 1)) (i + 1) s)
+
+-- the sum over the pair count, f64 root, to f32
+unfoldable pub observedOf : Vec3 → List Float → ℕ → Float
+unfolding pairSum
+observedOf e cs n = narrowOf binary32 (sqrtOf binary64 (div binary64 (pairSum e cs n n 0 (ofBits binary64 0)) (ofInt binary64 (pos (n * (n - 1) / 2)))))
+
+-- the score of n centers: below two 1; with an expected at or below EPSILON 0; otherwise observed over expected, clamped
+unfoldable pub scoreOf : Vec3 → List Float → ℕ → Float
+unfolding expectedOf observedOf clamped
+scoreOf e cs n =
+    cond (ltb n 2) (ofBits binary32 0x3f80_0000)
+    (cond (le (expectedOf e) epsilon) (ofBits binary32 0) (clamped (div binary32 (observedOf e cs n) (expectedOf e))))
+
+unfoldable pub dispersionOf : Cell → List Float → List ℕ → List ℕ → Float
+unfolding scoreOf centersOf
+dispersionOf c xs starts picks = scoreOf (extentOf c) (centersOf c xs starts picks) (copiesIn starts)
+
+-- ---- Dispersion: 1, 2, 3, 4, 15, 8
+unfoldable pub dispersionRefusal : Cell → List Float → List ℕ → List ℕ → ℕ
+unfolding inputRefusals firstRefusal
+dispersionRefusal c xs starts picks = firstRefusal (inputRefusals c xs [] starts picks)
+
+-- the number of each case of an answer, and its value (+0 with a refusal)
+abbrev pub dispersedNumber : Dispersed → ℕ
+dispersedNumber (Score s) = 0
+dispersedNumber (Refused n) = n
+
+abbrev pub dispersedScore : Dispersed → Float
+dispersedScore (Score s) = s
+dispersedScore (Refused n) = ofBits binary32 0
