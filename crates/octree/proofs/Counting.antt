@@ -1,0 +1,152 @@
+-- What holds of every tree: it has at most 15 nodes for each point, and every node has depth 14 at most and its points within the order
+-- lists. Both by what is left of a node's lists (`brood`). Assumes nothing.
+use mathlib.Core.Path.{_≡_, sym, ap, subst, _∙_}
+use mathlib.Core.Logic.{⊎-elim}
+use mathlib.Core.Bool.{Bool, cond}
+use mathlib.Core.List.{List, [], _∷_, _++_}
+use Prim.Native.Nat.{ℕ, zero, suc, _+_, _-_, _*_, _/_, _≤_, _<_}
+use native.Mathlib.Nat.{mul-add, suc-mul, eq-zero-or-pos}
+use native.Mathlib.Omega.{arith}
+use lib.ListN.{length, getD, length-append}
+use lib.Ieee.{Float}
+use Rattle.octree.specs.declared.bounds.OctreeBounds.{OctreeBounds}
+use Rattle.octree.specs.Bounds.{childOf}
+use Rattle.octree.specs.Split.{inOctant, octantPoints}
+use Rattle.octree.specs.Tree.{Node, Subtrees, Builder, none, whereSome, rooted, splits, childrenFrom, subtree, treeOf, pointNumbers}
+use Rattle.octree.specs.Inner.{otherPoints}
+use Rattle.octree.proofs.Selecting.{select-length}
+use Rattle.octree.proofs.Filling.{numbers-length}
+use Rattle.octree.proofs.Broods.{brood, brood-choice}
+use Rattle.octree.proofs.Growing.{no-points, some-points}
+
+-- a law of subtrees goes from a builder to what it makes where there are points
+some-or-none : (P : Subtrees → Type 0) (go : Builder) (at fc fw : ℕ) (b : OctreeBounds) (cs ws : List ℕ)
+    → (length cs + length ws ≡ 0 → P (whereSome go at fc fw b cs ws)) → (0 < length cs + length ws → P (go at fc fw b cs ws)) → P (whereSome go at fc fw b cs ws)
+some-or-none P go at fc fw b cs ws f g =
+    ⊎-elim f (λ p. subst P (sym (some-points go at fc fw b cs ws (λ e. omega (arith, e, p)))) (g p)) (eq-zero-or-pos (length cs + length ws))
+
+-- ---- the number of nodes
+abbrev Few : ℕ → Builder → Type 0
+Few m go = (at fc fw : ℕ) (b : OctreeBounds) (cs ws : List ℕ) → 0 < length cs + length ws → length (go at fc fw b cs ws .nodes) ≤ m * (length cs + length ws)
+
+module _ (C W : List Float) (go : Builder) (m : ℕ) (h : Few m go) where
+  where-few : (at fc fw : ℕ) (b : OctreeBounds) (cs ws : List ℕ) → length (whereSome go at fc fw b cs ws .nodes) ≤ m * (length cs + length ws)
+  where-few at fc fw b cs ws =
+      some-or-none (λ (g : Subtrees). length (g .nodes) ≤ m * (length cs + length ws)) go at fc fw b cs ws
+      (λ e. rw (no-points go at fc fw b cs ws e) (omega arith)) (h at fc fw b cs ws)
+
+  brood-few : (left : ℕ) (b : OctreeBounds) (at fc fw : ℕ) (cs ws : List ℕ) → length (brood C W go left at fc fw b cs ws .nodes) ≤ m * (length cs + length ws)
+  unfolding brood
+  brood-few zero b at fc fw cs ws = omega arith
+  brood-few (suc l) b at fc fw cs ws =
+      let c = octantPoints C (b .center) (7 - l) cs in
+      let w = octantPoints W (b .center) (7 - l) ws in
+      let c′ = otherPoints C (b .center) (7 - l) cs in
+      let w′ = otherPoints W (b .center) (7 - l) ws in
+      let s = whereSome go at fc fw (childOf b (7 - l)) c w in
+      let r = brood C W go l (at + length (s .nodes)) (fc + length c) (fw + length w) b c′ w′ in
+      let k : length c + length w + (length c′ + length w′) ≡ length cs + length ws =
+      omega (arith, select-length (inOctant C (b .center) (7 - l)) cs, select-length (inOctant W (b .center) (7 - l)) ws) in
+      let e : m * (length cs + length ws) ≡ m * (length c + length w) + m * (length c′ + length w′) =
+      ap (λ (n : ℕ). m * n) (sym k) ∙ mul-add m (length c + length w) (length c′ + length w′) in
+      omega (arith, where-few at fc fw (childOf b (7 - l)) c w, brood-few l b (at + length (s .nodes)) (fc + length c) (fw + length w) c′ w′, e, length-append (s .nodes) (r .nodes))
+
+subtree-few : (C W : List Float) (f : ℕ) → Few (suc f) (subtree C W f)
+unfolding subtree
+subtree-few C W zero at fc fw b cs ws h = omega arith
+subtree-few C W (suc f) at fc fw b cs ws h =
+    let t : Bool = splits b cs in
+    let k = brood-few C W (subtree C W f) (suc f) (subtree-few C W f) (cond t 8 0) b (at + 1) fc fw cs ws in
+    let e = ap (λ (g : Subtrees). length (g .nodes)) (brood-choice C W (subtree C W f) b cs ws t (at + 1) fc fw) in
+    omega (arith, k, e, suc-mul (suc f) (length cs + length ws))
+
+pub nodes-few : (b : OctreeBounds) (C W : List Float) → length (treeOf b C W .nodes) ≤ 15 * (length C / 3 + length W / 3)
+unfolding treeOf
+nodes-few b C W =
+    let k = where-few C W (subtree C W 14) 15 (subtree-few C W 14) 0 0 0 b (pointNumbers C) (pointNumbers W) in
+    omega (arith, k, numbers-length (length C / 3), numbers-length (length W / 3))
+
+-- ---- every node
+-- P holds of each node of the list, by its number
+abbrev pub Every : (Node → Type 0) → List Node → Type 0
+Every P ns = (n₀ : Node) (i : ℕ) → i < length ns → P (getD ns i n₀)
+
+every-none : (P : Node → Type 0) → Every P []
+every-none P n₀ i h = absurd (omega arith)
+
+every-more : (P : Node → Type 0) (n : Node) (ns : List Node) → P n → Every P ns → Every P (n ∷ ns)
+every-more P n ns p f n₀ zero h = p
+every-more P n ns p f n₀ (suc i) h = f n₀ i (omega arith)
+
+every-append : (P : Node → Type 0) (a b : List Node) → Every P a → Every P b → Every P (a ++ b)
+every-append P [] b f g = g
+every-append P (n ∷ ns) b f g = every-more P n (ns ++ b) (f n 0 (omega arith)) (every-append P ns b (λ n₀ i h. f n₀ (suc i) (omega arith)) g)
+
+every-weaker : (P Q : Node → Type 0) (ns : List Node) → ((n : Node) → P n → Q n) → Every P ns → Every Q ns
+every-weaker P Q ns f g n₀ i h = f (getD ns i n₀) (g n₀ i h)
+
+-- at depth 14 at most, with centers among the nc from fc on and waters among the nw from fw on
+pub record NodeWithin (fc nc fw nw : ℕ) (n : Node) : Type 0 where
+  pub shallow : n .depth ≤ 14
+  pub from-c : fc ≤ n .firstCenter
+  pub to-c : n .firstCenter + n .centers ≤ fc + nc
+  pub from-w : fw ≤ n .firstWater
+  pub to-w : n .firstWater + n .waters ≤ fw + nw
+
+abbrev Inside : Builder → Type 0
+Inside go = (at fc fw : ℕ) (b : OctreeBounds) (cs ws : List ℕ) → Every (NodeWithin fc (length cs) fw (length ws)) (go at fc fw b cs ws .nodes)
+
+wider : (fc nc fw nw fc′ nc′ fw′ nw′ : ℕ) → fc ≤ fc′ → fc′ + nc′ ≤ fc + nc → fw ≤ fw′ → fw′ + nw′ ≤ fw + nw
+    → (n : Node) → NodeWithin fc′ nc′ fw′ nw′ n → NodeWithin fc nc fw nw n
+wider fc nc fw nw fc′ nc′ fw′ nw′ p q r s n w =
+    record { shallow = w .shallow; from-c = omega (arith, w .from-c); to-c = omega (arith, w .to-c); from-w = omega (arith, w .from-w); to-w = omega (arith, w .to-w) }
+
+module _ (C W : List Float) (go : Builder) (h : Inside go) where
+  where-inside : Inside (whereSome go)
+  where-inside at fc fw b cs ws =
+      some-or-none (λ (g : Subtrees). Every (NodeWithin fc (length cs) fw (length ws)) (g .nodes)) go at fc fw b cs ws
+      (λ e. rw (no-points go at fc fw b cs ws e) (every-none (NodeWithin fc (length cs) fw (length ws)))) (λ p. h at fc fw b cs ws)
+
+  brood-inside : (left : ℕ) → Inside (brood C W go left)
+  unfolding brood
+  brood-inside zero at fc fw b cs ws = every-none (NodeWithin fc (length cs) fw (length ws))
+  brood-inside (suc l) at fc fw b cs ws =
+      let c = octantPoints C (b .center) (7 - l) cs in
+      let w = octantPoints W (b .center) (7 - l) ws in
+      let c′ = otherPoints C (b .center) (7 - l) cs in
+      let w′ = otherPoints W (b .center) (7 - l) ws in
+      let s = whereSome go at fc fw (childOf b (7 - l)) c w in
+      let r = brood C W go l (at + length (s .nodes)) (fc + length c) (fw + length w) b c′ w′ in
+      let kc = select-length (inOctant C (b .center) (7 - l)) cs in
+      let kw = select-length (inOctant W (b .center) (7 - l)) ws in
+      let P = NodeWithin fc (length cs) fw (length ws) in
+      every-append P (s .nodes) (r .nodes)
+      (every-weaker (NodeWithin fc (length c) fw (length w)) P (s .nodes)
+      (wider fc (length cs) fw (length ws) fc (length c) fw (length w) (omega arith) (omega (arith, kc)) (omega arith) (omega (arith, kw)))
+      (where-inside at fc fw (childOf b (7 - l)) c w))
+      (every-weaker (NodeWithin (fc + length c) (length c′) (fw + length w) (length w′)) P (r .nodes)
+      (wider fc (length cs) fw (length ws) (fc + length c) (length c′) (fw + length w) (length w′) (omega arith) (omega (arith, kc)) (omega arith) (omega (arith, kw)))
+      (brood-inside l (at + length (s .nodes)) (fc + length c) (fw + length w) b c′ w′))
+
+root-inside : (d at fc fw : ℕ) (b : OctreeBounds) (cs ws : List ℕ) (below : Subtrees) → d ≤ 14
+    → Every (NodeWithin fc (length cs) fw (length ws)) (below .nodes) → Every (NodeWithin fc (length cs) fw (length ws)) (rooted d at fc fw b cs ws below .nodes)
+root-inside d at fc fw b cs ws below h f =
+    every-more (NodeWithin fc (length cs) fw (length ws)) _ (below .nodes)
+    (record { shallow = h; from-c = omega arith; to-c = omega arith; from-w = omega arith; to-w = omega arith }) f
+
+subtree-inside : (C W : List Float) (f : ℕ) → Inside (subtree C W f)
+unfolding subtree
+subtree-inside C W zero at fc fw b cs ws = root-inside 14 at fc fw b cs ws (none cs ws) (omega arith) (every-none (NodeWithin fc (length cs) fw (length ws)))
+subtree-inside C W (suc f) at fc fw b cs ws =
+    root-inside (14 - suc f) at fc fw b cs ws (cond (splits b cs) (childrenFrom C W (subtree C W f) 8 (at + 1) fc fw b cs ws) (none cs ws)) (omega arith)
+    (subst (λ (g : Subtrees). Every (NodeWithin fc (length cs) fw (length ws)) (g .nodes)) (brood-choice C W (subtree C W f) b cs ws (splits b cs) (at + 1) fc fw)
+    (brood-inside C W (subtree C W f) (subtree-inside C W f) (cond (splits b cs) 8 0) (at + 1) fc fw b cs ws))
+
+pub nodes-within : (b : OctreeBounds) (C W : List Float) → Every (NodeWithin 0 (length C / 3) 0 (length W / 3)) (treeOf b C W .nodes)
+unfolding treeOf
+nodes-within b C W =
+    let kc = numbers-length (length C / 3) in
+    let kw = numbers-length (length W / 3) in
+    every-weaker (NodeWithin 0 (length (pointNumbers C)) 0 (length (pointNumbers W))) (NodeWithin 0 (length C / 3) 0 (length W / 3)) (treeOf b C W .nodes)
+    (wider 0 (length C / 3) 0 (length W / 3) 0 (length (pointNumbers C)) 0 (length (pointNumbers W)) (omega arith) (omega (arith, kc)) (omega arith) (omega (arith, kw)))
+    (where-inside C W (subtree C W 14) (subtree-inside C W 14) 0 0 0 b (pointNumbers C) (pointNumbers W))

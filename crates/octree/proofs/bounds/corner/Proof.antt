@@ -1,0 +1,14 @@
+-- `corner` meets its contract: each axis is what `pick` answers.
+-- Assumes nothing.
+use borrow.Author.Needs.{needs}
+use Rattle.octree.proofs.bounds.corner.Statement.{statement}
+use Rattle.octree.proofs.bounds.corner.Tie as tie
+
+pub corner-spec : {M : Type 1} → statement M
+corner-spec =
+    tie.close
+    (tie.spec
+    (λ c κs. search needs)
+    (λ c κs. search needs)
+    (λ c κs. search needs)
+    (λ c. cc))
