@@ -1,0 +1,165 @@
+-- `tree::tree` meets its contract: a refusal of the tests leaves every table as it was; otherwise the builder's answer is Tree's, over the
+-- finite waters at the start of the local array (`over-waters`). Assumes nothing.
+use mathlib.Core.Path.{_≡_, sym, ap, ap₂, _∙_}
+use mathlib.Core.List.{List}
+use Prim.Native.Nat.{ℕ, _/_}
+use native.Mathlib.Omega.{arith}
+use borrow.Author.Needs.{needs}
+use lib.ListN.{length}
+use lib.Ieee.{Float}
+use Rattle.selection.specs.Sound.{copiesIn}
+use Rattle.octree.specs.Tree.{Subtrees, treeRoom, treeRefusal, builtNumber, builtValues}
+use Rattle.tree.specs.Points.{finiteWaters}
+use Rattle.tree.specs.Tree.{frameTree, treeOn, wholeRecords, treeCallRefusal}
+use Rattle.tree.proofs.WaterList.{waters-length, waters-few}
+use Rattle.tree.proofs.TreeRefusals.{Tested, tested, call-tested, call-room}
+use Rattle.tree.proofs.Outcomes.{Leaves, unchanged, answers-same, over-waters}
+use Rattle.tree.proofs.tree.Statement.{statement}
+use Rattle.tree.proofs.tree.Tie as tie
+
+-- the input passed the tests
+passed :
+    (c : tie.Else1) → let st = c .before .before .before .before .before .before .before .before .before .before .before .before in
+    Tested (st .args .cell) (st .args .solutes .now) (st .args .waters .now) (st .args .starts .now) (st .args .picks .now) (st .args .center-order .now) (st .args .water-order .now)
+passed c =
+    let st = c .before .before .before .before .before .before .before .before .before .before .before .before in
+    tested (st .args .cell) (st .args .solutes .now) (st .args .waters .now) (st .args .starts .now) (st .args .picks .now) (st .args .center-order .now) (st .args .water-order .now) (sym (c .before .refusal .ensures) ∙ c .if1 .left)
+
+-- what the builder answered is Tree's answer
+answered :
+    (c : tie.After-tree-of) → let st = c .before .before .before .before .before .before .before .before .before .before .before .before .before .before .before .before .before .before .before .before .before in
+    let t = (frameTree (st .args .cell) (st .args .solutes .now) (st .args .waters .now) (st .args .starts .now) (st .args .picks .now)) in
+    let b = c .tree-of .result in
+    (builtNumber b ≡ treeCallRefusal (st .args .cell) (st .args .solutes .now) (st .args .waters .now) (st .args .starts .now) (st .args .picks .now) (st .args .center-order .now) (st .args .water-order .now) (wholeRecords (st .args .records .now) (st .args .boxes .now)))
+    × Leaves (builtNumber b) (builtValues b) t (copiesIn (st .args .starts .now)) (finiteWaters (st .args .waters .now))
+    (st .args .center-order .now) (c .tree-of .last .1 .1 .1 .1 .1 .1 .0) (st .args .water-order .now) (c .tree-of .last .1 .1 .1 .1 .1 .1 .1 .0)
+    (st .args .records .now) (c .tree-of .last .1 .1 .1 .1 .1 .1 .1 .1 .0) (st .args .boxes .now) (c .tree-of .last .1 .1 .1 .1 .1 .1 .1 .1 .1 .0)
+answered c =
+    let st = c .before .before .before .before .before .before .before .before .before .before .before .before .before .before .before .before .before .before .before .before .before in
+    let put = c .before .before .before .before .before .before .before .put-waters in
+    let else = c .before .before .before .before .before .before .before .before .before in
+    let room = wholeRecords (st .args .records .now) (st .args .boxes .now) in
+    let same-room : treeRoom (st .args .records .now) (st .args .boxes .now) (length (st .args .records .now) / 8) ≡ room = omega arith in
+    let tree : List Float → ℕ → Subtrees = λ l k. treeOn (st .args .cell) (st .args .solutes .now) (st .args .starts .now) (st .args .picks .now) l k in
+    let same = ap₂ tree (put .ensures .1) (put .ensures .0) ∙ over-waters (st .args .cell) (st .args .solutes .now) (st .args .waters .now) (st .args .starts .now) (st .args .picks .now) _ in
+    let got =
+    answers-same
+    (c .tree-of .result)
+    (treeRoom (st .args .records .now) (st .args .boxes .now) (length (st .args .records .now) / 8))
+    (copiesIn (st .args .starts .now))
+    (put .result)
+    (finiteWaters (st .args .waters .now))
+    (tree (put .last .1 .1 .0) (put .result))
+    (frameTree (st .args .cell) (st .args .solutes .now) (st .args .waters .now) (st .args .starts .now) (st .args .picks .now))
+    (st .args .center-order .now)
+    (c .tree-of .last .1 .1 .1 .1 .1 .1 .0)
+    (st .args .water-order .now)
+    (c .tree-of .last .1 .1 .1 .1 .1 .1 .1 .0)
+    (st .args .records .now)
+    (c .tree-of .last .1 .1 .1 .1 .1 .1 .1 .1 .0)
+    (st .args .boxes .now)
+    (c .tree-of .last .1 .1 .1 .1 .1 .1 .1 .1 .1 .0)
+    same
+    (put .ensures .0)
+    (c .tree-of .ensures) in
+    let none = sym (else .before .refusal .ensures) ∙ else .if1 .left in
+    (got .0 ∙ ap (λ (k : ℕ). treeRefusal k (frameTree (st .args .cell) (st .args .solutes .now) (st .args .waters .now) (st .args .starts .now) (st .args .picks .now))) same-room ∙ sym (call-room (st .args .cell) (st .args .solutes .now) (st .args .waters .now) (st .args .starts .now) (st .args .picks .now) (st .args .center-order .now) (st .args .water-order .now) room none), got .1)
+
+refusal-requires : tie.Need-refusal-requires
+refusal-requires c κs = search needs
+
+same-length : tie.Need-same-length
+same-length c = search needs
+
+same-length-2 : tie.Need-same-length-2
+same-length-2 c = search needs
+
+returns : tie.Need-returns
+returns c =
+    let st = c .before .before .before .before .before .before .before .before .before .before .before .before in
+    let r = c .before .refusal .result in
+    let first = call-tested (st .args .cell) (st .args .solutes .now) (st .args .waters .now) (st .args .starts .now) (st .args .picks .now) (st .args .center-order .now) (st .args .water-order .now) (wholeRecords (st .args .records .now) (st .args .boxes .now)) r (c .before .refusal .ensures) (c .if1 .taken) in (
+      first .0,
+      unchanged r (frameTree (st .args .cell) (st .args .solutes .now) (st .args .waters .now) (st .args .starts .now) (st .args .picks .now)) (copiesIn (st .args .starts .now)) (finiteWaters (st .args .waters .now)) (st .args .center-order .now) (st .args .water-order .now) (st .args .records .now) (st .args .boxes .now) (c .if1 .taken) (first .1),
+    )
+
+slice-aggregate-put-waters : tie.Need-slice-aggregate-put-waters
+slice-aggregate-put-waters c = search needs
+
+put-waters-requires : tie.Need-put-waters-requires
+put-waters-requires c κs = passed (c .before) .waters-few
+
+slice-aggregate-tree-of : tie.Need-slice-aggregate-tree-of
+slice-aggregate-tree-of c = search needs
+
+tree-of-requires : tie.Need-tree-of-requires
+tree-of-requires c κs =
+    let st = c .before .before .before .before .before .before .before .before .before .before .before .before .before .before .before .before .before .before .before .before in
+    let put = c .before .before .before .before .before .before .put-waters in
+    let ok = passed (c .before .before .before .before .before .before .before .before) in
+    let size = put .kept .1 .1 .0 in
+    let m = put .ensures .0 in
+    let three = waters-length (st .args .cell) (st .args .waters .now) in
+    let few = waters-few (st .args .cell) (st .args .waters .now) in
+    (ok .sound, ((omega (arith, ok .waters-few), omega (arith, ok .waters-few)), (ok .centers-fit, omega (arith, ok .waters-fit))))
+
+enum-known-nodes : tie.Need-enum-known-nodes
+enum-known-nodes c = search needs
+
+enum-told : tie.Need-enum-told
+enum-told c = search needs
+
+same-length-3 : tie.Need-same-length-3
+same-length-3 c = search needs
+
+same-length-4 : tie.Need-same-length-4
+same-length-4 c = search needs
+
+same-length-5 : tie.Need-same-length-5
+same-length-5 c = search needs
+
+same-length-6 : tie.Need-same-length-6
+same-length-6 c = search needs
+
+returns-2 : tie.Need-returns-2
+returns-2 c = rw (c .before .nodes .given .1) at (answered (c .before .before .before .before .before .before .before .before .before .before .before))
+
+same-length-7 : tie.Need-same-length-7
+same-length-7 c = search needs
+
+same-length-8 : tie.Need-same-length-8
+same-length-8 c = search needs
+
+same-length-9 : tie.Need-same-length-9
+same-length-9 c = search needs
+
+same-length-10 : tie.Need-same-length-10
+same-length-10 c = search needs
+
+returns-3 : tie.Need-returns-3
+returns-3 c = rw (c .enum-told .given .1) at (answered (c .before .before .before .before .before .before .before .before .before .before))
+
+pub tree-spec : {M : Type 1} → statement M
+tree-spec =
+    tie.close
+    (tie.spec
+    refusal-requires
+    same-length
+    same-length-2
+    returns
+    slice-aggregate-put-waters
+    put-waters-requires
+    slice-aggregate-tree-of
+    tree-of-requires
+    enum-known-nodes
+    enum-told
+    same-length-3
+    same-length-4
+    same-length-5
+    same-length-6
+    returns-2
+    same-length-7
+    same-length-8
+    same-length-9
+    same-length-10
+    returns-3)
