@@ -1,0 +1,54 @@
+-- Document 01's listed frame and its checked frames of the leaf report, worked out by the definitions: `checked`, one statement for the lot.
+-- Numbers are given by their f32 bits. Assumes nothing.
+use mathlib.Core.Path.{_≡_, refl}
+use mathlib.Core.List.{List, [], _∷_}
+use Prim.Native.Nat.{ℕ}
+use lib.Ieee.{Float, binary32, ofBits, toBits, ofInt, add, sub, mul, div, neg, lt, le}
+use Rattle.numbers.specs.Whole.{floorOf, roundOf}
+use Rattle.numbers.specs.Root.{sqrtOf}
+use Rattle.cell.specs.declared.Cell.{Cell}
+use Rattle.cell.specs.Cell.{extentOf, wrapAxis, wrap, imageAxis, minImage, minus, volumeOf, pointAt, finitePoint}
+use Rattle.cell.proofs.Examples.{upTo}
+use Rattle.selection.specs.Sound.{pickList}
+use Rattle.dispersion.specs.Centers.{plus, dividedBy, unwrapped, sumFrom, anchorOf, centerOf, centersFrom, centersOf}
+use Rattle.dispersion.specs.Dispersion.{clamped}
+use Rattle.octree.specs.Bounds.{childOf, wideBox, octantAt}
+use Rattle.octree.specs.Split.{select}
+use Rattle.octree.specs.Tree.{Node, whereSome, childrenFrom, subtree, firstNumbers, treeOf, deepest}
+use Rattle.tree.specs.Points.{wrapFrom, wrapFiniteFrom, treeCenters, treeWaters}
+use Rattle.tree.specs.Tree.{frameTree}
+use Rattle.report.specs.Leaf.{smaller, larger, halfSide, withinHalf, inShell, shellFrom, expanded, roomVolume, densityOf, occupancyOf, referenceLeaves, referenceVolume, partitionScore}
+use Rattle.report.specs.Report.{leafWords, leavesFrom, leafTable, reportedLeaves, dryLeaves, reportValues}
+
+-- ---- cell 0..16, solutes (2,2,2) and (4,2,2), one atom per copy, water (6,6,6)
+abbrev cell : Cell
+cell = upTo 0x4180_0000
+
+abbrev f2 : Float
+f2 = ofBits binary32 0x4000_0000
+
+abbrev f6 : Float
+f6 = ofBits binary32 0x40c0_0000
+
+abbrev solutes : List Float
+solutes = f2 ∷ f2 ∷ f2 ∷ ofBits binary32 0x4080_0000 ∷ f2 ∷ f2 ∷ []
+
+abbrev waters : List Float
+waters = f6 ∷ f6 ∷ f6 ∷ []
+
+abbrev nodes : List Node
+nodes = frameTree cell solutes waters (0 ∷ 1 ∷ 2 ∷ []) (0 ∷ 1 ∷ []) .nodes
+
+pub record Checked : Type 0 where
+  -- six nodes, depth 3, two leaves, both dry; one water in each shell, 1 of 0.75 expected
+  pub listed : leafTable cell 2 (treeWaters cell waters) nodes ≡ 3 ∷ 1 ∷ 0 ∷ 0 ∷ 1 ∷ 0x3faa_aaab ∷ 0x3e00_0000 ∷ 0 ∷ 4 ∷ 1 ∷ 0 ∷ 0 ∷ 1 ∷ 0x3faa_aaab ∷ 0x3e00_0000 ∷ 0 ∷ []
+  pub values : reportValues nodes ≡ 6 ∷ 3 ∷ 2 ∷ 2 ∷ []
+  -- copies 8 and 9: references over 8 and over 64, of 4096
+  pub eight-copies : referenceVolume cell 8 ≡ ofBits binary32 0x4400_0000
+  pub nine-copies : referenceVolume cell 9 ≡ ofBits binary32 0x4280_0000
+  -- partition 8 of 512, one center: 0.125
+  pub partition : partitionScore (ofBits binary32 0x4100_0000) (ofBits binary32 0x4400_0000) 1 ≡ ofBits binary32 0x3e00_0000
+
+pub checked : Checked
+unfolding frameTree treeCenters treeWaters wrapFrom wrapFiniteFrom centersOf centersFrom centerOf anchorOf sumFrom unwrapped dividedBy plus pickList pointAt finitePoint wrap wrapAxis minImage imageAxis minus extentOf volumeOf floorOf roundOf treeOf whereSome subtree childrenFrom firstNumbers select octantAt childOf wideBox deepest leafTable leavesFrom leafWords reportedLeaves dryLeaves reportValues smaller larger halfSide withinHalf inShell shellFrom expanded roomVolume densityOf occupancyOf referenceLeaves referenceVolume partitionScore clamped sqrtOf ofBits toBits ofInt add sub mul div neg lt le
+checked = record { listed = refl; values = refl; eight-copies = refl; nine-copies = refl; partition = refl }

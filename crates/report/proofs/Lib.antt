@@ -1,0 +1,18 @@
+-- Occupancies: what one is where water is seen.
+pub mod Occupancies
+-- The waters in a leaf's shell, counted one after the other.
+pub mod ShellCount
+-- The leaf table, node by node.
+pub mod LeafList
+-- What holds of the box of every node of a tree.
+pub mod NodeBoxes
+-- Nodes read back from the node tables of a tree are its nodes.
+pub mod ReadBack
+-- What Report finds in the tables that Tree filled.
+pub mod ReportOutcomes
+-- The boxes of a tree stay within the cell's bounds.
+pub mod BoxBounds
+-- No ratio that Report writes has the bits 0.
+pub mod RatioBits
+-- Document 01's listed frame and checked frames, by the definitions.
+pub mod Examples

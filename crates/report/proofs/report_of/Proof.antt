@@ -1,0 +1,236 @@
+-- `report::report_of` meets its contract: the builder's answer is over the frame's tree (`answered`); the nodes read back are the tree's own,
+-- so the leaf table is that of the tree; at 13 it is cleared. Assumes nothing.
+use mathlib.Core.Path.{refl, ap, ap₂, _∙_}
+use mathlib.Core.List.{List}
+use Prim.Native.Nat.{ℕ, _*_, _≤_}
+use native.Mathlib.Omega.{arith}
+use borrow.Author.Needs.{needs}
+use lib.ListN.{length}
+use lib.Ieee.{Float}
+use Rattle.cell.specs.Tables.{over}
+use Rattle.selection.specs.Sound.{copiesIn}
+use Rattle.selection.proofs.SoundLists.{sound-lists}
+use Rattle.octree.specs.Tree.{Subtrees}
+use Rattle.tree.specs.Points.{finiteWaters}
+use Rattle.tree.specs.Tree.{frameTree, treeOn}
+use Rattle.tree.proofs.WaterList.{waters-length, waters-few}
+use Rattle.tree.proofs.Outcomes.{Answers, answers-same, over-waters}
+use Rattle.report.specs.Report.{leavesFrom, reportedLeaves, dryLeaves, reportRoom}
+use Rattle.report.proofs.ReportOutcomes.{table-over, room-fits, counted, nodes-read, nodes-small, words-small, leaves-cleared, leaves-filled, values-are}
+use Rattle.report.proofs.report_of.Statement.{statement}
+use Rattle.report.proofs.report_of.Tie as tie
+
+-- what the builder answered, over the frame's tree
+answered :
+    (c : tie.After-tree-of) → let st = c .before .before .before .before .before .before .before .before .before .before .before .before .before .before .before .before .before .before in
+    Answers (c .tree-of .result) (reportRoom (st .args .records .now) (st .args .boxes .now) (st .args .leaves .now))
+    (frameTree (st .args .cell) (st .args .solutes .now) (st .args .waters .now) (st .args .starts .now) (st .args .picks .now))
+    (copiesIn (st .args .starts .now)) (finiteWaters (st .args .waters .now))
+    (st .args .center-order .now) (c .tree-of .last .1 .1 .1 .1 .1 .1 .0) (st .args .water-order .now) (c .tree-of .last .1 .1 .1 .1 .1 .1 .1 .0)
+    (st .args .records .now) (c .tree-of .last .1 .1 .1 .1 .1 .1 .1 .1 .0) (st .args .boxes .now) (c .tree-of .last .1 .1 .1 .1 .1 .1 .1 .1 .1 .0)
+answered c =
+    let st = c .before .before .before .before .before .before .before .before .before .before .before .before .before .before .before .before .before .before in
+    let put = c .before .before .before .before .before .before .before .put-waters in
+    let tree : List Float → ℕ → Subtrees = λ l k. treeOn (st .args .cell) (st .args .solutes .now) (st .args .starts .now) (st .args .picks .now) l k in
+    let same = ap₂ tree (put .ensures .1) (put .ensures .0) ∙ over-waters (st .args .cell) (st .args .solutes .now) (st .args .waters .now) (st .args .starts .now) (st .args .picks .now) _ in
+    answers-same
+    (c .tree-of .result)
+    (reportRoom (st .args .records .now) (st .args .boxes .now) (st .args .leaves .now))
+    (copiesIn (st .args .starts .now))
+    (put .result)
+    (finiteWaters (st .args .waters .now))
+    (tree (put .last .1 .1 .0) (put .result))
+    (frameTree (st .args .cell) (st .args .solutes .now) (st .args .waters .now) (st .args .starts .now) (st .args .picks .now))
+    (st .args .center-order .now)
+    (c .tree-of .last .1 .1 .1 .1 .1 .1 .0)
+    (st .args .water-order .now)
+    (c .tree-of .last .1 .1 .1 .1 .1 .1 .1 .0)
+    (st .args .records .now)
+    (c .tree-of .last .1 .1 .1 .1 .1 .1 .1 .1 .0)
+    (st .args .boxes .now)
+    (c .tree-of .last .1 .1 .1 .1 .1 .1 .1 .1 .1 .0)
+    same
+    (put .ensures .0)
+    (c .tree-of .ensures)
+
+-- the waters written are few, and stand within the local array
+few-waters : (c : tie.After-put-waters) → (c .put-waters .result ≤ 65536) × (c .put-waters .result * 3 ≤ length (c .put-waters .last .1 .1 .0))
+few-waters c =
+    let st = c .before .before .before .before .before .before .before .before .before .before .before in
+    let size = c .put-waters .kept .1 .1 .0 in
+    let count = c .put-waters .ensures .0 in
+    let three = waters-length (st .args .cell) (st .args .waters .now) in
+    let few = waters-few (st .args .cell) (st .args .waters .now) in
+    (omega (arith, st .pre .1 .0), omega (arith, st .pre .1 .0))
+
+slice-aggregate-put-waters : tie.Need-slice-aggregate-put-waters
+slice-aggregate-put-waters c = search needs
+
+put-waters-requires : tie.Need-put-waters-requires
+put-waters-requires c κs = search needs
+
+slice-aggregate-tree-of : tie.Need-slice-aggregate-tree-of
+slice-aggregate-tree-of c = search needs
+
+tree-of-requires : tie.Need-tree-of-requires
+tree-of-requires c κs =
+    let st = c .before .before .before .before .before .before .before .before .before .before .before .before .before .before .before .before .before in
+    let put = c .before .before .before .before .before .before in
+    let few = few-waters put in
+    (st .pre .0, ((few .1, few .0), (st .pre .1 .1 .0, omega (arith, put .put-waters .ensures .0, st .pre .1 .1 .1))))
+
+enum-known-n : tie.Need-enum-known-n
+enum-known-n c = search needs
+
+enum-told : tie.Need-enum-told
+enum-told c = search needs
+
+clear-requires : tie.Need-clear-requires
+clear-requires c κs = search needs
+
+same-length : tie.Need-same-length
+same-length c = search needs
+
+same-length-2 : tie.Need-same-length-2
+same-length-2 c = search needs
+
+same-length-3 : tie.Need-same-length-3
+same-length-3 c = search needs
+
+same-length-4 : tie.Need-same-length-4
+same-length-4 c = search needs
+
+same-length-5 : tie.Need-same-length-5
+same-length-5 c = search needs
+
+returns : tie.Need-returns
+returns c =
+    let st = c .before .before .before .before .before .before .before .before .before .before .before .before .before .before .before .before .before .before .before .before .before .before .before .before .before .before .before .before .before .before .before .before in
+    let got = rw (c .before .before .before .before .enum-told .given .1) at (answered (c .before .before .before .before .before .before .before .before .before .before .before .before .before .before)) in (
+      got .0,
+      (
+        refl,
+        (
+          got .1 .1 .0,
+          (
+            got .1 .1 .1 .0,
+            (
+              got .1 .1 .1 .1 .0,
+              (
+                got .1 .1 .1 .1 .1,
+                c .before .before .clear .ensures ∙ leaves-cleared (st .args .cell) (st .args .waters .now) (st .args .starts .now) ((frameTree (st .args .cell) (st .args .solutes .now) (st .args .waters .now) (st .args .starts .now) (st .args .picks .now)) .nodes) (st .args .leaves .now),
+              ),
+            ),
+          ),
+        ),
+      ),
+    )
+
+density-requires : tie.Need-density-requires
+density-requires c κs = few-waters (c .before .before .before .before .before .before .before .before .before .before .before .before .before .before .before .before .before .before) .0
+
+sub-reference-volume : tie.Need-sub-reference-volume
+sub-reference-volume c =
+    let st = c .before .before .before .before .before .before .before .before .before .before .before .before .before .before .before .before .before .before .before .before .before .before .before .before .before .before .before .before .before .before in
+    omega (arith, sound-lists (st .args .solutes .now) (st .args .starts .now) (st .args .picks .now) (st .pre .0) .number)
+
+reference-volume-requires : tie.Need-reference-volume-requires
+reference-volume-requires c κs = search needs
+
+slice-aggregate-put-leaves : tie.Need-slice-aggregate-put-leaves
+slice-aggregate-put-leaves c = search needs
+
+put-leaves-requires : tie.Need-put-leaves-requires
+put-leaves-requires c κs =
+    let st = c .before .before .before .before .before .before .before .before .before .before .before .before .before .before .before .before .before .before .before .before .before .before .before .before .before .before .before .before .before .before .before .before .before .before .before in
+    let built = c .before .before .before .before .before .before .before .before .before .before .before .before .before .before .before .before .before in
+    let nodes = c .before .before .before .before .before .before .before .n .given in
+    let got = rw (nodes .1) at (answered built) in
+    let few = few-waters (c .before .before .before .before .before .before .before .before .before .before .before .before .before .before .before .before .before .before .before .before .before .before .before .before) in
+    let count = counted (st .args .cell) (st .args .solutes .now) (st .args .waters .now) (st .args .starts .now) (st .args .picks .now) (nodes .0 .0) (nodes .0 .1 .0) (got .1 .0) .0 in
+    let room = room-fits (st .args .cell) (st .args .solutes .now) (st .args .waters .now) (st .args .starts .now) (st .args .picks .now) (reportRoom (st .args .records .now) (st .args .boxes .now) (st .args .leaves .now)) (got .0) in
+    let small = nodes-small (st .args .cell) (st .args .solutes .now) (st .args .waters .now) (st .args .starts .now) (st .args .picks .now) (st .pre .0) (st .pre .1 .0) in
+    let words = words-small (st .args .cell) (st .args .solutes .now) (st .args .waters .now) (st .args .starts .now) (st .args .picks .now) (st .pre .0) (st .pre .1 .0) (st .args .records .now) (built .tree-of .last .1 .1 .1 .1 .1 .1 .1 .1 .0) (got .1 .1 .1 .1 .0) in
+    let size-r = built .tree-of .kept .1 .1 .1 .1 .1 .1 .1 .1 .0 in
+    let size-b = built .tree-of .kept .1 .1 .1 .1 .1 .1 .1 .1 .1 .0 in
+    ((few .1, few .0), ((omega arith, omega arith, omega arith, omega arith), λ k h. words k (omega (arith, h, count))))
+
+same-length-6 : tie.Need-same-length-6
+same-length-6 c = search needs
+
+same-length-7 : tie.Need-same-length-7
+same-length-7 c = search needs
+
+same-length-8 : tie.Need-same-length-8
+same-length-8 c = search needs
+
+same-length-9 : tie.Need-same-length-9
+same-length-9 c = search needs
+
+same-length-10 : tie.Need-same-length-10
+same-length-10 c = search needs
+
+returns-2 : tie.Need-returns-2
+returns-2 c =
+    let st = c .before .before .before .before .before .before .before .before .before .before .before .before .before .before .before .before .before .before .before .before .before .before .before .before .before .before .before .before .before .before .before .before .before .before .before .before .before .before in
+    let built = c .before .before .before .before .before .before .before .before .before .before .before .before .before .before .before .before .before .before .before .before in
+    let put = c .before .before .before .before .before .before .before .before .before .before .before .before .before .before .before .before .before .before .before .before .before .before .before .before .before .before .before .put-waters in
+    let nodes = c .before .before .before .before .before .before .before .before .before .before .n .given in
+    let got = rw (nodes .1) at (answered built) in
+    let leaves = c .before .before .put-leaves .ensures in
+    let vs = (frameTree (st .args .cell) (st .args .solutes .now) (st .args .waters .now) (st .args .starts .now) (st .args .picks .now)) .nodes in
+    let count = counted (st .args .cell) (st .args .solutes .now) (st .args .waters .now) (st .args .starts .now) (st .args .picks .now) (nodes .0 .0) (nodes .0 .1 .0) (got .1 .0) in
+    let read =
+    nodes-read (st .args .cell) (st .args .solutes .now) (st .args .waters .now) (st .args .starts .now) (st .args .picks .now) (nodes .0 .0)
+    (st .args .records .now) (built .tree-of .last .1 .1 .1 .1 .1 .1 .1 .1 .0) (st .args .boxes .now) (built .tree-of .last .1 .1 .1 .1 .1 .1 .1 .1 .1 .0)
+    (count .0) (got .1 .1 .1 .1 .0) (got .1 .1 .1 .1 .1) in
+    let table = table-over (st .args .cell) (st .args .solutes .now) (st .args .waters .now) (st .args .starts .now) (st .args .picks .now) _ _ _ _ (put .result) (c .before .before .before .before .before .before .before .before .density .ensures) (c .before .before .before .before .before .before .before .reference-volume .ensures) (put .ensures .1) (put .ensures .0) vs in
+    let values = values-are (nodes .0 .0) (nodes .0 .1 .0) _ _ vs (count .0) (count .1) (leaves .0 ∙ ap reportedLeaves read) (leaves .1 .0 ∙ ap dryLeaves read) in
+    let filled = leaves .1 .1 ∙ ap (λ (l : List ℕ). over l (st .args .leaves .now)) (ap (leavesFrom (st .args .cell) _ _ _ (put .result) 0) read ∙ table) in (
+      got .0,
+      (
+        values,
+        (
+          got .1 .1 .0,
+          (
+            got .1 .1 .1 .0,
+            (
+              got .1 .1 .1 .1 .0,
+              (
+                got .1 .1 .1 .1 .1,
+                filled ∙ leaves-filled (st .args .cell) (st .args .waters .now) (st .args .starts .now) vs (st .args .leaves .now),
+              ),
+            ),
+          ),
+        ),
+      ),
+    )
+
+pub report-of-spec : {M : Type 1} → statement M
+report-of-spec =
+    tie.close
+    (tie.spec
+    slice-aggregate-put-waters
+    put-waters-requires
+    slice-aggregate-tree-of
+    tree-of-requires
+    enum-known-n
+    enum-told
+    clear-requires
+    same-length
+    same-length-2
+    same-length-3
+    same-length-4
+    same-length-5
+    returns
+    density-requires
+    sub-reference-volume
+    reference-volume-requires
+    slice-aggregate-put-leaves
+    put-leaves-requires
+    same-length-6
+    same-length-7
+    same-length-8
+    same-length-9
+    same-length-10
+    returns-2)
