@@ -1,0 +1,2 @@
+-- the starred frames, worked out
+pub mod Worked

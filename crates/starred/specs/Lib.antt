@@ -1,0 +1,2 @@
+-- The starred frames of document 01.
+pub mod Starred
