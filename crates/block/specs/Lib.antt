@@ -1,0 +1,2 @@
+-- The block of bytes that holds a frame.
+pub mod Block

@@ -1,0 +1,103 @@
+-- Document 01's listing, and small texts, as the definitions give them: `checked`, one statement for the lot. Assumes nothing.
+use mathlib.Core.Path.{_≡_, refl}
+use mathlib.Core.Bool.{false}
+use mathlib.Core.List.{List, [], _∷_}
+use Prim.Native.Nat.{ℕ}
+use lib.ListN.{replicate}
+use lib.Ieee.{Float, binary32, ofBits, toBits}
+use Rattle.cell.specs.Refusals.{firstRefusal}
+use Rattle.cell.specs.Tables.{over}
+use Rattle.listing.specs.Text.{ascii, glyph, digits, placesIn, places, decimal, hex}
+use Rattle.listing.specs.Listing.{
+  hexBits,
+  occupancy,
+  refusedText,
+  blankText,
+  clustersLine,
+  dispersionLine,
+  nodesLine,
+  leafLine,
+  leafLines,
+  dryLine,
+  listingText,
+  leavesMissing,
+  textRefusal,
+  textValues,
+  textAfter,
+}
+
+abbrev one : Float
+one = ofBits binary32 0x3f80_0000
+
+abbrev quarter : Float
+quarter = ofBits binary32 0x3e80_0000
+
+-- the leaf table of document 01's listed frame
+abbrev pub leaves : List ℕ
+leaves =
+    3 ∷ 1 ∷ 0 ∷ 0 ∷ 1 ∷ 0x3faa_aaab ∷ 0x3e00_0000 ∷ 0
+    ∷ 4 ∷ 1 ∷ 0 ∷ 0 ∷ 1 ∷ 0x3faa_aaab ∷ 0x3e00_0000 ∷ 0
+    ∷ []
+
+abbrev pub listed : List ℕ
+listed = ascii "clusters 2 3F800000 3F800000 3F800000\ndispersion 3E800000\nnodes 6 depth 3\nleaf 3 1 0 dry 1 3FAAAAAB 3E000000\nleaf 4 1 0 dry 1 3FAAAAAB 3E000000\ndryleaves 2\n"
+
+pub record Checked : Type 0 where
+  pub listing : listingText 2 one one one quarter 6 3 leaves 2 2 ≡ listed
+  pub accepted : textRefusal (leavesMissing leaves 2) listed (replicate 200 0) ≡ 0
+  pub bytes : textValues (leavesMissing leaves 2) listed (replicate 200 0) ≡ 156 ∷ []
+  -- more leaves than the table has
+  pub missing : textRefusal (leavesMissing leaves 3) listed (replicate 200 0) ≡ 7
+  -- numbers
+  pub zero-decimal : decimal 0 ≡ ascii "0"
+  pub ten-decimal : decimal 10 ≡ ascii "10"
+  pub most-decimal : decimal 18446744073709551615 ≡ ascii "18446744073709551615"
+  pub zero-hex : hex 0 ≡ ascii "00000000"
+  pub most-hex : hex 0xffff_ffff ≡ ascii "FFFFFFFF"
+  pub ratio : occupancy 0x89a_bcde ≡ ascii "089ABCDE"
+  -- the other two texts; a buffer keeps what stands past the text, and all of it where the text has no room
+  pub refusal : refusedText 14 ≡ ascii "refused 14\n"
+  pub blank : textAfter false blankText (replicate 8 7) ≡ ascii "blank\n\u{7}\u{7}"
+  pub no-room : textAfter false blankText (replicate 5 7) ≡ replicate 5 7
+
+pub checked : Checked
+unfolding
+    glyph
+    digits
+    placesIn
+    places
+    decimal
+    hex
+    hexBits
+    occupancy
+    refusedText
+    clustersLine
+    dispersionLine
+    nodesLine
+    leafLine
+    leafLines
+    dryLine
+    listingText
+    textRefusal
+    textValues
+    textAfter
+    firstRefusal
+    over
+    ofBits
+    toBits
+checked =
+    record {
+      listing = refl;
+      accepted = refl;
+      bytes = refl;
+      missing = refl;
+      zero-decimal = refl;
+      ten-decimal = refl;
+      most-decimal = refl;
+      zero-hex = refl;
+      most-hex = refl;
+      ratio = refl;
+      refusal = refl;
+      blank = refl;
+      no-room = refl;
+    }

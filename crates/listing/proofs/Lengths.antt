@@ -1,0 +1,79 @@
+-- How many bytes the lines have, and whether the leaves' lines have room, a line at a time.
+-- Assumes nothing.
+use mathlib.Core.Path.{_≡_, refl, sym, _∙_}
+use mathlib.Core.List.{List, [], _++_}
+use Prim.Native.Nat.{ℕ, zero, suc, _+_, _-_, _≤_, _<_}
+use native.Mathlib.Decide.{decLe}
+use native.Mathlib.Omega.{arith}
+use lib.Dec.{leb}
+use lib.ListN.{length, getD, length-append}
+use lib.Ieee.{Float, binary32, toBits}
+use borrow.Author.Tests.{le-leb, lt-leb}
+use Rattle.listing.specs.Text.{places, decimal, hex}
+use Rattle.listing.specs.Listing.{hexBits, occupancy, refusedText, clustersLine, dispersionLine, nodesLine, leafLine, leafLines, dryLine, listingText}
+use Rattle.listing.proofs.Numerals.{length-digits}
+
+pub length-decimal : (n : ℕ) → length (decimal n) ≡ places n
+unfolding decimal
+length-decimal n = length-digits 10 (places n) n
+
+pub length-hex : (w : ℕ) → length (hex w) ≡ 8
+unfolding hex
+length-hex w = length-digits 16 8 w
+
+pub length-bits : (x : Float) → length (hexBits x) ≡ 8
+unfolding hexBits
+length-bits x = length-hex (toBits binary32 x)
+
+pub length-refused : (n : ℕ) → length (refusedText n) ≡ 9 + places n
+unfolding refusedText
+length-refused n = simp (length-append, length-decimal) (omega arith)
+
+pub length-clusters : (n : ℕ) (x y z : Float) → length (clustersLine n x y z) ≡ 37 + places n
+unfolding clustersLine
+length-clusters n x y z = simp (length-append, length-decimal, length-bits) (omega arith)
+
+pub length-dispersion : (x : Float) → length (dispersionLine x) ≡ 20
+unfolding dispersionLine
+length-dispersion x = simp (length-append, length-bits)
+
+pub length-nodes : (n d : ℕ) → length (nodesLine n d) ≡ 14 + places n + places d
+unfolding nodesLine
+length-nodes n d = simp (length-append, length-decimal) (omega arith)
+
+pub length-dry : (n : ℕ) → length (dryLine n) ≡ 11 + places n
+unfolding dryLine
+length-dry n = simp (length-append, length-decimal) (omega arith)
+
+pub length-leaf : (t : List ℕ) (p : ℕ) → length (leafLine t p) ≡ 20 + places (getD t p 0) + places (getD t (p + 1) 0) + places (getD t (p + 2) 0) + length (occupancy (getD t (p + 3) 0)) + places (getD t (p + 4) 0) + length (occupancy (getD t (p + 5) 0))
+unfolding leafLine
+length-leaf t p = simp (length-append, length-decimal, length-hex) (omega arith)
+
+-- all lines: those besides the leaves', and theirs
+pub length-listing : (copies : ℕ) (x y z d : Float) (nodes depth : ℕ) (t : List ℕ) (count dry : ℕ) → length (listingText copies x y z d nodes depth t count dry) ≡ 82 + places copies + places nodes + places depth + places dry + length (leafLines t count 0)
+unfolding listingText
+length-listing copies x y z d nodes depth t count dry = simp (length-append, length-clusters, length-dispersion, length-nodes, length-dry) (omega arith)
+
+-- ---- the leaves' lines
+pub leaves-none : (t : List ℕ) (n p : ℕ) → n ≤ 0 → leafLines t n p ≡ []
+unfolding leafLines
+leaves-none t zero p h = refl
+leaves-none t (suc n) p h = absurd (omega arith)
+
+leaves-some : (t : List ℕ) (k m p : ℕ) → k ≡ suc m → leafLines t k p ≡ leafLine t p ++ leafLines t m (p + 8)
+unfolding leafLines
+leaves-some t k m p e = rw e
+
+pub leaves-more : (t : List ℕ) (n i p : ℕ) → i < n → leafLines t (n - i) p ≡ leafLine t p ++ leafLines t (n - (i + 1)) (p + 8)
+leaves-more t n i p h = leaves-some t (n - i) (n - (i + 1)) p (omega arith)
+
+pub leaves-length : (t : List ℕ) (n i p : ℕ) → i < n → length (leafLines t (n - i) p) ≡ length (leafLine t p) + length (leafLines t (n - (i + 1)) (p + 8))
+leaves-length t n i p h = rw (leaves-more t n i p h) (length-append (leafLine t p) (leafLines t (n - (i + 1)) (p + 8)))
+
+-- a line that fits takes its bytes of the room; with one that does not, nothing fits
+pub fits-less : (n m left : ℕ) → n ≤ left → leb (n + m) left ≡ leb m (left - n)
+fits-less n m left h = by-rest (decLe m (left - n))
+  where
+    by-rest : Dec (m ≤ left - n) → leb (n + m) left ≡ leb m (left - n)
+    by-rest (yes l) = le-leb (n + m) left (omega arith) ∙ sym (le-leb m (left - n) l)
+    by-rest (no l) = lt-leb (n + m) left (omega arith) ∙ sym (lt-leb m (left - n) (omega arith))

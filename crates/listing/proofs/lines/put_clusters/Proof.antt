@@ -1,0 +1,64 @@
+-- `listing::lines::put_clusters` meets its contract: the line's words, one after the other (Words). Assumes nothing.
+use mathlib.Core.Path.{refl}
+use native.Mathlib.Omega.{arith}
+use Rattle.listing.specs.Listing.{clustersWords, clustersLine}
+use Rattle.listing.proofs.Words.{Words, words-first, words-next, words-last, next-fits, last-fits}
+use borrow.Author.Needs.{needs}
+use Rattle.listing.proofs.lines.put_clusters.Statement.{statement}
+use Rattle.listing.proofs.lines.put_clusters.Tie as tie
+
+one : (c : tie.After-put-text) → let a = c .before .before .before .before .args in Words (a .at) (clustersWords (a .copies) (a .largest) (a .contacted) (a .pair)) (a .out .now) 1 (c .put-text .result) (c .put-text .last .1 .0)
+unfolding clustersLine
+one c =
+    let a = c .before .before .before .before .args in
+    words-next (omega arith) (words-first (clustersWords (a .copies) (a .largest) (a .contacted) (a .pair)) (a .out .now) (c .before .before .before .before .pre)) (c .put-text .ensures)
+
+two : (c : tie.After-put-number) → let a = c .before .before .before .before .before .before .before .before .args in Words (a .at) (clustersWords (a .copies) (a .largest) (a .contacted) (a .pair)) (a .out .now) 2 (c .put-number .result) (c .put-number .last .1 .1 .0)
+two c = words-next (omega arith) (one (c .before .before .before .before)) (c .put-number .ensures)
+
+three : (c : tie.After-put-bits) → let a = c .before .before .before .before .before .before .before .before .before .before .before .before .args in Words (a .at) (clustersWords (a .copies) (a .largest) (a .contacted) (a .pair)) (a .out .now) 3 (c .put-bits .result) (c .put-bits .last .1 .1 .0)
+three c = words-next (omega arith) (two (c .before .before .before .before)) (c .put-bits .ensures)
+
+four : (c : tie.After-put-bits2) → let a = c .before .before .before .before .before .before .before .before .before .before .before .before .before .before .before .before .args in Words (a .at) (clustersWords (a .copies) (a .largest) (a .contacted) (a .pair)) (a .out .now) 4 (c .put-bits2 .result) (c .put-bits2 .last .1 .1 .0)
+four c = words-next (omega arith) (three (c .before .before .before .before)) (c .put-bits2 .ensures)
+
+slice-aggregate-put-text : tie.Need-slice-aggregate-put-text
+slice-aggregate-put-text c = search needs
+
+put-text-requires : tie.Need-put-text-requires
+unfolding clustersLine
+put-text-requires c κs =
+    let a = c .before .before .before .args in
+    next-fits (omega arith) (words-first (clustersWords (a .copies) (a .largest) (a .contacted) (a .pair)) (a .out .now) (c .before .before .before .pre))
+
+put-number-requires : tie.Need-put-number-requires
+put-number-requires c κs = next-fits (omega arith) (one (c .before .before .before))
+
+put-bits-requires : tie.Need-put-bits-requires
+put-bits-requires c κs = next-fits (omega arith) (two (c .before .before .before))
+
+put-bits-requires-2 : tie.Need-put-bits-requires-2
+put-bits-requires-2 c κs = next-fits (omega arith) (three (c .before .before .before))
+
+put-bits-requires-3 : tie.Need-put-bits-requires-3
+put-bits-requires-3 c κs = last-fits refl (four (c .before .before .before))
+
+same-length : tie.Need-same-length
+same-length c = search needs
+
+returns : tie.Need-returns
+unfolding clustersLine
+returns c = words-last refl (four (c .before .before .before .before .before .before)) (c .before .before .put-bits3 .ensures)
+
+pub put-clusters-spec : {M : Type 1} → statement M
+put-clusters-spec =
+    tie.close
+    (tie.spec
+    slice-aggregate-put-text
+    put-text-requires
+    put-number-requires
+    put-bits-requires
+    put-bits-requires-2
+    put-bits-requires-3
+    same-length
+    returns)

@@ -1,0 +1,41 @@
+-- `listing::lines::put_dispersion` meets its contract: the line's words, one after the other (Words). Assumes nothing.
+use mathlib.Core.Path.{refl}
+use mathlib.Core.List.{List, [], _∷_}
+use Prim.Native.Nat.{ℕ}
+use native.Mathlib.Omega.{arith}
+use lib.Ieee.{Float}
+use Rattle.listing.specs.Text.{ascii}
+use Rattle.listing.specs.Listing.{hexBits, dispersionLine}
+use Rattle.listing.proofs.Words.{Words, words-first, words-next, words-last, next-fits, last-fits}
+use borrow.Author.Needs.{needs}
+use Rattle.listing.proofs.lines.put_dispersion.Statement.{statement}
+use Rattle.listing.proofs.lines.put_dispersion.Tie as tie
+
+abbrev words : Float → List (List ℕ)
+words x = ascii "dispersion" ∷ hexBits x ∷ []
+
+one : (c : tie.After-put-text) → let a = c .before .before .before .before .args in Words (a .at) (words (a .dispersion)) (a .out .now) 1 (c .put-text .result) (c .put-text .last .1 .0)
+unfolding dispersionLine
+one c = words-next (omega arith) (words-first (words (c .before .before .before .before .args .dispersion)) (c .before .before .before .before .args .out .now) (c .before .before .before .before .pre)) (c .put-text .ensures)
+
+slice-aggregate-put-text : tie.Need-slice-aggregate-put-text
+slice-aggregate-put-text c = search needs
+
+put-text-requires : tie.Need-put-text-requires
+unfolding dispersionLine
+put-text-requires c κs = next-fits (omega arith) (words-first (words (c .before .before .before .args .dispersion)) (c .before .before .before .args .out .now) (c .before .before .before .pre))
+
+put-bits-requires : tie.Need-put-bits-requires
+put-bits-requires c κs = last-fits refl (one (c .before .before .before))
+
+same-length : tie.Need-same-length
+same-length c = search needs
+
+returns : tie.Need-returns
+unfolding dispersionLine
+returns c = words-last refl (one (c .before .before .before .before .before .before)) (c .before .before .put-bits .ensures)
+
+pub put-dispersion-spec : {M : Type 1} → statement M
+put-dispersion-spec =
+    tie.close
+    (tie.spec slice-aggregate-put-text put-text-requires put-bits-requires same-length returns)

@@ -1,0 +1,40 @@
+-- `listing::lines::put_dry` meets its contract: the line's words, one after the other (Words). Assumes nothing.
+use mathlib.Core.Path.{refl}
+use mathlib.Core.List.{List, [], _∷_}
+use Prim.Native.Nat.{ℕ}
+use native.Mathlib.Omega.{arith}
+use Rattle.listing.specs.Text.{ascii, decimal}
+use Rattle.listing.specs.Listing.{dryLine}
+use Rattle.listing.proofs.Words.{Words, words-first, words-next, words-last, next-fits, last-fits}
+use borrow.Author.Needs.{needs}
+use Rattle.listing.proofs.lines.put_dry.Statement.{statement}
+use Rattle.listing.proofs.lines.put_dry.Tie as tie
+
+abbrev words : ℕ → List (List ℕ)
+words x = ascii "dryleaves" ∷ decimal x ∷ []
+
+one : (c : tie.After-put-text) → let a = c .before .before .before .before .args in Words (a .at) (words (a .dry)) (a .out .now) 1 (c .put-text .result) (c .put-text .last .1 .0)
+unfolding dryLine
+one c = words-next (omega arith) (words-first (words (c .before .before .before .before .args .dry)) (c .before .before .before .before .args .out .now) (c .before .before .before .before .pre)) (c .put-text .ensures)
+
+slice-aggregate-put-text : tie.Need-slice-aggregate-put-text
+slice-aggregate-put-text c = search needs
+
+put-text-requires : tie.Need-put-text-requires
+unfolding dryLine
+put-text-requires c κs = next-fits (omega arith) (words-first (words (c .before .before .before .args .dry)) (c .before .before .before .args .out .now) (c .before .before .before .pre))
+
+put-number-requires : tie.Need-put-number-requires
+put-number-requires c κs = last-fits refl (one (c .before .before .before))
+
+same-length : tie.Need-same-length
+same-length c = search needs
+
+returns : tie.Need-returns
+unfolding dryLine
+returns c = words-last refl (one (c .before .before .before .before .before .before)) (c .before .before .put-number .ensures)
+
+pub put-dry-spec : {M : Type 1} → statement M
+put-dry-spec =
+    tie.close
+    (tie.spec slice-aggregate-put-text put-text-requires put-number-requires same-length returns)

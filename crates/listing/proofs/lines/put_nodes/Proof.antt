@@ -1,0 +1,67 @@
+-- `listing::lines::put_nodes` meets its contract: the line's words, one after the other (Words). Assumes nothing.
+use mathlib.Core.Path.{refl}
+use mathlib.Core.List.{List, [], _∷_}
+use Prim.Native.Nat.{ℕ}
+use native.Mathlib.Omega.{arith}
+use Rattle.listing.specs.Text.{ascii, decimal}
+use Rattle.listing.specs.Listing.{nodesLine}
+use Rattle.listing.proofs.Words.{Words, words-first, words-next, words-last, next-fits, last-fits}
+use borrow.Author.Needs.{needs}
+use Rattle.listing.proofs.lines.put_nodes.Statement.{statement}
+use Rattle.listing.proofs.lines.put_nodes.Tie as tie
+
+abbrev words : ℕ → ℕ → List (List ℕ)
+words n d = ascii "nodes" ∷ decimal n ∷ ascii "depth" ∷ decimal d ∷ []
+
+one : (c : tie.After-put-text) → let a = c .before .before .before .before .args in Words (a .at) (words (a .nodes) (a .depth)) (a .out .now) 1 (c .put-text .result) (c .put-text .last .1 .0)
+unfolding nodesLine
+one c =
+    let a = c .before .before .before .before .args in
+    words-next (omega arith) (words-first (words (a .nodes) (a .depth)) (a .out .now) (c .before .before .before .before .pre)) (c .put-text .ensures)
+
+two : (c : tie.After-put-number) → let a = c .before .before .before .before .before .before .before .before .args in Words (a .at) (words (a .nodes) (a .depth)) (a .out .now) 2 (c .put-number .result) (c .put-number .last .1 .1 .0)
+two c = words-next (omega arith) (one (c .before .before .before .before)) (c .put-number .ensures)
+
+three : (c : tie.After-put-text2) → let a = c .before .before .before .before .before .before .before .before .before .before .before .before .before .args in Words (a .at) (words (a .nodes) (a .depth)) (a .out .now) 3 (c .put-text2 .result) (c .put-text2 .last .1 .0)
+three c = words-next (omega arith) (two (c .before .before .before .before .before)) (c .put-text2 .ensures)
+
+slice-aggregate-put-text : tie.Need-slice-aggregate-put-text
+slice-aggregate-put-text c = search needs
+
+put-text-requires : tie.Need-put-text-requires
+unfolding nodesLine
+put-text-requires c κs =
+    let a = c .before .before .before .args in
+    next-fits (omega arith) (words-first (words (a .nodes) (a .depth)) (a .out .now) (c .before .before .before .pre))
+
+put-number-requires : tie.Need-put-number-requires
+put-number-requires c κs = next-fits (omega arith) (one (c .before .before .before))
+
+slice-aggregate-put-text-2 : tie.Need-slice-aggregate-put-text-2
+slice-aggregate-put-text-2 c = search needs
+
+put-text-requires-2 : tie.Need-put-text-requires-2
+put-text-requires-2 c κs = next-fits (omega arith) (two (c .before .before .before .before))
+
+put-number-requires-2 : tie.Need-put-number-requires-2
+put-number-requires-2 c κs = last-fits refl (three (c .before .before .before))
+
+same-length : tie.Need-same-length
+same-length c = search needs
+
+returns : tie.Need-returns
+unfolding nodesLine
+returns c = words-last refl (three (c .before .before .before .before .before .before)) (c .before .before .put-number2 .ensures)
+
+pub put-nodes-spec : {M : Type 1} → statement M
+put-nodes-spec =
+    tie.close
+    (tie.spec
+    slice-aggregate-put-text
+    put-text-requires
+    put-number-requires
+    slice-aggregate-put-text-2
+    put-text-requires-2
+    put-number-requires-2
+    same-length
+    returns)

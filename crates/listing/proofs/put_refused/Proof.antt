@@ -1,0 +1,75 @@
+-- `listing::put_refused` meets its contract: a word and a number, if there is room for the line (`roomy`). Assumes nothing.
+use mathlib.Core.Path.{refl}
+use mathlib.Core.Bool.{false}
+use mathlib.Core.List.{List, [], _∷_}
+use Prim.Native.Nat.{ℕ, _≤_}
+use native.Mathlib.Omega.{arith}
+use lib.ListN.{length}
+use borrow.Author.Tests.{lt-ltb, le-ltb}
+use Rattle.listing.specs.Text.{ascii, decimal}
+use Rattle.listing.specs.Listing.{refusedText}
+use Rattle.listing.proofs.Lengths.{length-refused}
+use Rattle.listing.proofs.Words.{Words, words-first, words-next, words-last, last-fits}
+use Rattle.listing.proofs.Answers.{cramped, written}
+use borrow.Author.Needs.{needs}
+use Rattle.listing.proofs.put_refused.Statement.{statement}
+use Rattle.listing.proofs.put_refused.Tie as tie
+
+abbrev words : ℕ → List (List ℕ)
+words n = ascii "refused" ∷ decimal n ∷ []
+
+roomy : (c : tie.Else1) → let a = c .before .before .before .args in length (refusedText (a .n)) ≤ length (a .out .now)
+roomy c = omega (arith, length-refused (c .before .before .before .args .n))
+
+one : (c : tie.After-put-text) → let a = c .before .before .before .before .before .before .args in Words 0 (words (a .n)) (a .out .now) 1 (c .put-text .result) (c .put-text .last .1 .0)
+unfolding refusedText
+one c =
+    let a = c .before .before .before .before .before .before .args in
+    words-next (omega arith) (words-first (words (a .n)) (a .out .now) (omega (arith, roomy (c .before .before .before)))) (c .put-text .ensures)
+
+decimal-places-requires : tie.Need-decimal-places-requires
+decimal-places-requires c κs = search needs
+
+add-if1 : tie.Need-add-if1
+add-if1 c = search needs
+
+returns : tie.Need-returns
+returns c =
+    let a = c .before .before .before .args in
+    cramped false (refusedText (a .n)) (a .out .now) (lt-ltb (length (a .out .now)) (length (refusedText (a .n))) (omega (arith, length-refused (a .n))))
+
+slice-aggregate-put-text : tie.Need-slice-aggregate-put-text
+slice-aggregate-put-text c = search needs
+
+put-text-requires : tie.Need-put-text-requires
+put-text-requires c κs = search needs
+
+put-number-requires : tie.Need-put-number-requires
+put-number-requires c κs = last-fits refl (one (c .before .before .before))
+
+same-length : tie.Need-same-length
+same-length c = search needs
+
+returns-2 : tie.Need-returns-2
+unfolding refusedText
+returns-2 c =
+    let a = c .before .before .before .before .before .before .before .before .before .before .before .before .args in
+    written
+    false
+    (refusedText (a .n))
+    (a .out .now)
+    (le-ltb (length (a .out .now)) (length (refusedText (a .n))) (roomy (c .before .before .before .before .before .before .before .before .before)))
+    (words-last refl (one (c .before .before .before .before .before .before)) (c .before .before .put-number .ensures))
+
+pub put-refused-spec : {M : Type 1} → statement M
+put-refused-spec =
+    tie.close
+    (tie.spec
+    decimal-places-requires
+    add-if1
+    returns
+    slice-aggregate-put-text
+    put-text-requires
+    put-number-requires
+    same-length
+    returns-2)

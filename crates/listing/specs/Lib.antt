@@ -1,0 +1,3 @@
+-- The listing that program `frame` prints.
+pub mod Text
+pub mod Listing

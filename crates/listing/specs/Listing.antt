@@ -1,0 +1,96 @@
+-- Document 01, program `frame`: what it prints, `refused` and the number, or `blank`, or the listing, and what a call that writes it
+-- into a lent buffer answers. Floats are bits in hexadecimal, other numbers decimal. Definitions only. Assumes nothing.
+use Prim.Native.Nat.{ℕ, zero, suc, _+_, _*_}
+use mathlib.Core.Bool.{Bool, cond, _||_}
+use mathlib.Core.List.{List, [], _∷_, _++_}
+use lib.Dec.{ltb, eqb}
+use lib.ListN.{length, getD}
+use lib.Ieee.{Float, binary32, toBits}
+use Rattle.cell.specs.Refusals.{refuse, firstRefusal}
+use Rattle.cell.specs.Tables.{over, unlessRefused}
+use Rattle.listing.specs.Text.{ascii, decimal, hex, line}
+use Rattle.listing.specs.declared.Listed.{Listed}
+use Rattle.listing.specs.declared.Listed.the-variants.{Written, Refused}
+
+-- a float as its bits
+unfoldable pub hexBits : Float → List ℕ
+hexBits x = hex (toBits binary32 x)
+
+-- an occupancy's word in the leaf table: `dry` where it is 0, else the ratio's bits
+unfoldable pub occupancy : ℕ → List ℕ
+occupancy w = cond (eqb w 0) (ascii "dry") (hex w)
+
+-- ---- the lines
+unfoldable pub refusedText : ℕ → List ℕ
+refusedText n = line (ascii "refused" ∷ decimal n ∷ [])
+
+abbrev pub blankText : List ℕ
+blankText = line (ascii "blank" ∷ [])
+
+-- copies, then the largest, contacted and pair fractions
+abbrev pub clustersWords : ℕ → Float → Float → Float → List (List ℕ)
+clustersWords copies largest contacted pair = ascii "clusters" ∷ decimal copies ∷ hexBits largest ∷ hexBits contacted ∷ hexBits pair ∷ []
+
+unfoldable pub clustersLine : ℕ → Float → Float → Float → List ℕ
+clustersLine copies largest contacted pair = line (clustersWords copies largest contacted pair)
+
+unfoldable pub dispersionLine : Float → List ℕ
+dispersionLine d = line (ascii "dispersion" ∷ hexBits d ∷ [])
+
+-- the number of nodes and the greatest depth
+unfoldable pub nodesLine : ℕ → ℕ → List ℕ
+nodesLine nodes depth = line (ascii "nodes" ∷ decimal nodes ∷ ascii "depth" ∷ decimal depth ∷ [])
+
+-- the leaf at entry p of the leaf table t: node, centers, waters, box occupancy, shell waters, shell occupancy, partition score
+abbrev pub leafWords : List ℕ → ℕ → List (List ℕ)
+leafWords t p =
+    ascii "leaf"
+    ∷ decimal (getD t p 0)
+    ∷ decimal (getD t (p + 1) 0)
+    ∷ decimal (getD t (p + 2) 0)
+    ∷ occupancy (getD t (p + 3) 0)
+    ∷ decimal (getD t (p + 4) 0)
+    ∷ occupancy (getD t (p + 5) 0)
+    ∷ hex (getD t (p + 6) 0)
+    ∷ []
+
+unfoldable pub leafLine : List ℕ → ℕ → List ℕ
+leafLine t p = line (leafWords t p)
+
+-- n leaves of eight words each, from entry p of the leaf table on
+unfoldable pub leafLines : List ℕ → ℕ → ℕ → List ℕ
+leafLines t zero p = []
+leafLines t (suc n) p = leafLine t p ++ leafLines t n (p + 8)
+
+unfoldable pub dryLine : ℕ → List ℕ
+dryLine dry = line (ascii "dryleaves" ∷ decimal dry ∷ [])
+
+-- the listing, of the leaf table t and its first `count` leaves
+unfoldable pub listingText : ℕ → Float → Float → Float → Float → ℕ → ℕ → List ℕ → ℕ → ℕ → List ℕ
+listingText copies largest contacted pair dispersion nodes depth t count dry =
+    clustersLine copies largest contacted pair ++ (dispersionLine dispersion ++ (nodesLine nodes depth ++ (leafLines t count 0 ++ dryLine dry)))
+
+-- whether the leaf table t has fewer than `count` leaves
+abbrev pub leavesMissing : List ℕ → ℕ → Bool
+leavesMissing t count = ltb (length t) (count * 8)
+
+-- ---- what a call that writes a text answers, and the buffer afterwards
+-- the number of each case of an answer: a refusal's own, 0 for a text
+abbrev pub listedNumber : Listed → ℕ
+listedNumber (Written n) = 0
+listedNumber (Refused n) = n
+
+-- the values of each case: the bytes written, none with a refusal
+abbrev pub listedValues : Listed → List ℕ
+listedValues (Written n) = n ∷ []
+listedValues (Refused n) = []
+
+-- 7, a lent table is too short: what is to be listed is missing, or the buffer has no room for the text
+unfoldable pub textRefusal : Bool → List ℕ → List ℕ → ℕ
+textRefusal missing text out = firstRefusal (refuse 7 (missing || ltb (length out) (length text)) ∷ [])
+
+unfoldable pub textValues : Bool → List ℕ → List ℕ → List ℕ
+textValues missing text out = unlessRefused (textRefusal missing text out) (length text ∷ []) []
+
+unfoldable pub textAfter : Bool → List ℕ → List ℕ → List ℕ
+textAfter missing text out = unlessRefused (textRefusal missing text out) (over text out) out

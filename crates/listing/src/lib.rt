@@ -1,0 +1,87 @@
+// What program `frame` prints (document 01), written into a lent buffer: `refused` and a number, `blank`, or the listing.
+// The text's length is counted before its first byte is written, so that a refusal changes nothing.
+ghost use mathlib.Core.Path.{_≡_};
+ghost use mathlib.Core.Bool.{false};
+ghost use Rattle.listing.specs.Listing.{refusedText, blankText, listingText, leavesMissing, listedNumber, listedValues, textRefusal, textValues, textAfter};
+
+// sizes.rt: how many bytes a text has
+mod sizes;
+// pieces.rt: words, numbers and floats, each written with the byte after it
+mod pieces;
+// lines.rt: the lines of the listing
+mod lines;
+
+// What a call answers: the number of bytes written, or a refusal by its number.
+pub enum Listed {
+    Written(usize),
+    Refused(u32),
+}
+
+// `refused` and the number: 7, or the bytes written.
+pub fn put_refused(n: u32, out: &mut [u8]) -> Listed
+    ensures answer { λ r. ⌜ listedNumber r ≡ textRefusal false (refusedText n) (now (out .entry)) ⌝ }
+    ensures values { λ r. ⌜ listedValues r ≡ textValues false (refusedText n) (now (out .entry)) ⌝ }
+    ensures after { λ r. ⌜ now (out .exit) ≡ textAfter false (refusedText n) (now (out .entry)) ⌝ }
+{
+    let number = n as usize;
+    if out.len() < 9 + sizes::decimal_places(number) {
+        return Listed::Refused(7);
+    }
+    let word = pieces::put_text(b"refused ", out, 0);
+    Listed::Written(pieces::put_number(number, b'\n', out, word))
+}
+
+// `blank`: 7, or the bytes written.
+pub fn put_blank(out: &mut [u8]) -> Listed
+    ensures answer { λ r. ⌜ listedNumber r ≡ textRefusal false blankText (now (out .entry)) ⌝ }
+    ensures values { λ r. ⌜ listedValues r ≡ textValues false blankText (now (out .entry)) ⌝ }
+    ensures after { λ r. ⌜ now (out .exit) ≡ textAfter false blankText (now (out .entry)) ⌝ }
+{
+    if out.len() < 6 {
+        return Listed::Refused(7);
+    }
+    Listed::Written(pieces::put_text(b"blank\n", out, 0))
+}
+
+// The listing, with the first `count` leaves of the leaf table: 7, also where the table has fewer, or the bytes written.
+pub fn put_listing(
+    copies: usize,
+    largest: f32,
+    contacted: f32,
+    pair: f32,
+    dispersion: f32,
+    nodes: usize,
+    depth: usize,
+    leaves: &[u32],
+    count: usize,
+    dry: usize,
+    out: &mut [u8],
+) -> Listed
+    ensures answer { λ r. ⌜ listedNumber r ≡ textRefusal (leavesMissing (now (leaves .entry)) count) (listingText copies largest contacted pair dispersion nodes depth (now (leaves .entry)) count dry) (now (out .entry)) ⌝ }
+    ensures values { λ r. ⌜ listedValues r ≡ textValues (leavesMissing (now (leaves .entry)) count) (listingText copies largest contacted pair dispersion nodes depth (now (leaves .entry)) count dry) (now (out .entry)) ⌝ }
+    ensures after { λ r. ⌜ now (out .exit) ≡ textAfter (leavesMissing (now (leaves .entry)) count) (listingText copies largest contacted pair dispersion nodes depth (now (leaves .entry)) count dry) (now (out .entry)) ⌝ }
+{
+    if leaves.len() / 8 < count {
+        return Listed::Refused(7);
+    }
+    let head = sizes::head_size(copies, nodes, depth, dry);
+    if out.len() < head {
+        return Listed::Refused(7);
+    }
+    if !sizes::leaves_fit(leaves, count, out.len() - head) {
+        return Listed::Refused(7);
+    }
+    Listed::Written(lines::put_lines(
+        copies,
+        largest,
+        contacted,
+        pair,
+        dispersion,
+        nodes,
+        depth,
+        leaves,
+        count,
+        dry,
+        out,
+    ))
+}
