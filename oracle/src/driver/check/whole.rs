@@ -1,0 +1,142 @@
+//! The whole frame, and the second reading against the unchanged original.
+
+use super::clusters::Touches;
+use super::lent::{Pair, settle};
+use super::{Checked, Checker, WHOLE_ORIGINAL};
+use crate::case::Lent;
+use crate::library;
+use crate::stats::{BLANK, Call};
+use original::properties;
+use original::properties::opened::access as rust;
+use reading::{Answer, FrameInput, FrameWork, Picked};
+
+impl Checker<'_> {
+    pub(super) fn frame(&mut self, touches: Option<&mut Touches>) -> Checked {
+        let case = self.case;
+        let input = FrameInput {
+            cell: case.cell,
+            solutes: &case.solutes,
+            per: case.per,
+            indices: &case.indices,
+            waters: &case.waters,
+        };
+        let mut own = Touches::new(0);
+        let touches = touches.unwrap_or(&mut own);
+        let mut ask = |p: &Picked, i: usize, j: usize| match touches.n {
+            0 => p.touch(i, j),
+            _ => touches.ask(p, i, j),
+        };
+        let work: Answer<Option<FrameWork>> = reading::frame_picks(&input).map(|some| {
+            some.map(|(kept, picked)| FrameWork::new(kept, picked, &case.waters, &mut ask))
+        });
+        if self.wants(Call::Original) {
+            self.original_agrees(&work)?;
+        }
+        if self.wants(Call::Frame) {
+            self.whole_frame(&work)?;
+        }
+        Ok(())
+    }
+
+    pub(super) fn whole_frame(&mut self, work: &Answer<Option<FrameWork>>) -> Checked {
+        let case = self.case;
+        let some = work.as_ref().ok().and_then(Option::as_ref);
+        let copies = some.map_or(3, |w| w.kept.len());
+        let n: usize = some.map_or(3, |w| w.kept.iter().map(Vec::len).sum());
+        let nodes = some.map_or(3, |w| w.worked.built.nodes);
+        let mut starts = Pair::new(case, "starts", Lent::Starts, copies + 1);
+        let mut picks = Pair::new(case, "picks", Lent::Picks, n);
+        let mut clusters = Pair::new(case, "clusters", Lent::Clusters, 2 + 3 * copies);
+        let mut center_order = Pair::new(case, "center order", Lent::CenterOrder, copies);
+        let waters = reading::finite_waters(&case.waters);
+        let mut water_order = Pair::new(case, "water order", Lent::WaterOrder, waters);
+        let mut records = Pair::new(case, "records", Lent::Records, 8 * nodes);
+        let mut boxes = Pair::new(case, "boxes", Lent::Boxes, 6 * nodes);
+        let mut leaves = Pair::new(case, "leaves", Lent::Leaves, 8 * nodes);
+        let mut answers = Pair::new(case, "answers", Lent::Answers, 11);
+        let mut tables = reading::TreeTables {
+            center_order: &mut center_order.expected,
+            water_order: &mut water_order.expected,
+            records: &mut records.expected,
+            boxes: &mut boxes.expected,
+            leaves: Some(&mut leaves.expected),
+        };
+        let answer = reading::frame(
+            work,
+            &mut starts.expected,
+            &mut picks.expected,
+            &mut clusters.expected,
+            &mut tables,
+        );
+        let expected = settle(&answer, &mut answers);
+        let found = library::frame(
+            &self.with(&[], &[]),
+            case.per,
+            &case.indices,
+            &mut library::FrameTables {
+                starts: &mut starts.lent,
+                picks: &mut picks.lent,
+                clusters: &mut clusters.lent,
+            },
+            &mut library::TreeTables {
+                center_order: &mut center_order.lent,
+                water_order: &mut water_order.lent,
+                records: &mut records.lent,
+                boxes: &mut boxes.lent,
+            },
+            &mut leaves.lent,
+            &mut answers.lent,
+        );
+        let tables = [
+            &starts, &picks, &clusters, &center_order, &water_order, &records, &boxes, &leaves, &answers,
+        ];
+        self.compare(Call::Frame, "", expected, found, &tables)?;
+        if matches!(answer, Ok(a) if a[0] == 1) {
+            // Counted as blank instead of as a success.
+            *self.stats.answers.get_mut(&Call::Frame).unwrap().get_mut(&0).unwrap() -= 1;
+            self.stats.count(Call::Frame, BLANK);
+        }
+        Ok(())
+    }
+
+    /// The second reading's frame against the unchanged original's own numbers.
+    pub(super) fn original_agrees(&mut self, work: &Answer<Option<FrameWork>>) -> Checked {
+        let case = self.case;
+        let Ok(some) = work else { return Ok(()) };
+        let cell = reading::simbox(case.cell);
+        let solutes = reading::points(&case.solutes);
+        let waters = reading::points(&case.waters);
+        let indices: Vec<usize> = case.indices.iter().map(|&i| i as usize).collect();
+        let (expected, leaves): ([u32; 4], &[u32]) = match some {
+            None => ([0; 4], &[]),
+            Some(w) => {
+                let [largest, contacted, pair] = w.fractions();
+                ([w.dispersion, largest, contacted, pair], &w.worked.leaves)
+            }
+        };
+        let n: usize = some.as_ref().map_or(0, |w| w.kept.iter().map(Vec::len).sum());
+        let found = match some {
+            Some(w) if n * (n + waters.len()) > WHOLE_ORIGINAL => {
+                let [largest, contacted, pair] = rust::fractions(&w.picked.mols, &w.picked.cell);
+                [f32::from_bits(w.dispersion), largest, contacted, pair]
+            }
+            _ => properties::diagnostics(&solutes, case.per, &indices, &waters, &cell),
+        };
+        self.stats.count(Call::Original, 0);
+        if found.map(f32::to_bits) != expected {
+            return self.differ(
+                Call::Original,
+                format!("the original's dispersion and fractions {found:?}, the reading's bits {expected:08X?}"),
+            );
+        }
+        let score = properties::cell_list(&solutes, case.per, &indices, &waters, &cell);
+        let of_leaves = if some.is_some() { reading::score_of_leaves(leaves) } else { 0.0 };
+        if score.to_bits() != of_leaves.to_bits() {
+            return self.differ(
+                Call::Original,
+                format!("the original's cell list score {score:?}, from the leaf table {of_leaves:?}"),
+            );
+        }
+        Ok(())
+    }
+}

@@ -1,0 +1,80 @@
+//! Document 01's checked frames, tried on the stand-ins and the second reading before anything else is compared.
+
+use lin_alg::f32::Vec3;
+use original::properties::opened::access as rust;
+use reading::block::{Block, listing};
+use std::process::exit;
+
+const LISTED: &str = "\
+clusters 2 3F800000 3F800000 3F800000
+dispersion 3E800000
+nodes 6 depth 3
+leaf 3 1 0 dry 1 3FAAAAAB 3E000000
+leaf 4 1 0 dry 1 3FAAAAAB 3E000000
+dryleaves 2
+";
+
+fn cube(side: f32) -> [f32; 6] {
+    [0.0, 0.0, 0.0, side, side, side]
+}
+
+fn picks(atoms: usize, per: usize, indices: &[u32]) -> (Vec<u32>, Vec<u32>) {
+    let mut starts = vec![9; 10];
+    let mut picks = vec![9; 10];
+    let [copies, n] = reading::select(&vec![1.0; 3 * atoms], per, indices, &mut starts, &mut picks).unwrap();
+    starts.truncate(copies as usize + 1);
+    picks.truncate(n as usize);
+    (starts, picks)
+}
+
+fn refusal(copies: usize) -> u32 {
+    let mut starts = vec![0; copies + 1];
+    let mut picks = vec![0; copies];
+    reading::select(&vec![1.0; 3 * copies], 1, &[], &mut starts, &mut picks).err().unwrap_or(0)
+}
+
+fn two_copies(cell: [f32; 6]) -> Vec<u8> {
+    let solutes = vec![2.0, 2.0, 2.0, 4.0, 2.0, 2.0];
+    Block { per: 1, cell, indices: vec![], solutes, waters: vec![6.0, 6.0, 6.0] }.write()
+}
+
+pub fn hold() {
+    let ten = reading::simbox(cube(10.0));
+    let wrapped = |x: f32| ten.wrap(Vec3::splat(x)).x;
+    let image = |x: f32| ten.min_image(Vec3::splat(x)).x;
+    let eps = f32::EPSILON;
+    let cutoff = |x: f32| rust::touch(&[Vec3::new_zero()], &[Vec3::new(x, 0.0, 0.0)], &reading::simbox(cube(16.0)));
+    let none_per_copy = {
+        let mut bytes = two_copies(cube(16.0));
+        bytes[6] = 0;
+        listing(&bytes)
+    };
+    let examples = [
+        ("-2^-40 wraps to 10", wrapped(-(2.0_f32.powi(-40))) == 10.0),
+        ("10 wraps to 0", wrapped(10.0) == 0.0),
+        ("the minimum image of 5 is -5", image(5.0) == -5.0),
+        ("the minimum image of -5 is 5", image(-5.0) == 5.0),
+        ("the minimum image of 4 is 4", image(4.0) == 4.0),
+        ("extents of 2^-23 are blank", listing(&two_copies(cube(eps))) == "blank\n"),
+        ("extents of 1.5 x 2^-23 have dispersion 0", listing(&two_copies(cube(1.5 * eps))).contains("dispersion 00000000\n")),
+        ("three per copy, five atoms: one copy", picks(5, 3, &[]) == (vec![0, 3], vec![0, 1, 2])),
+        ("zero per copy is blank", none_per_copy == "blank\n"),
+        ("indices 0, 0 pick atom 0 twice", picks(3, 3, &[0, 0]) == (vec![0, 2], vec![0, 0])),
+        ("index 9 alone picks all three", picks(3, 3, &[9]) == (vec![0, 3], vec![0, 1, 2])),
+        ("8 copies: over 8", rust::reference_volume(512.0, 8) == 64.0),
+        ("9 copies: over 64", rust::reference_volume(512.0, 9) == 8.0),
+        ("the root of 2", 2.0_f32.sqrt().to_bits() == 0x3FB5_04F3),
+        ("partition 8 of 512, one center", rust::partition(8.0, 512.0, 1) == 0.125),
+        ("4.2 touches and the next number does not", cutoff(4.2) && !cutoff(4.2_f32.next_up())),
+        ("4,096 copies are accepted", refusal(4_096) == 0),
+        ("4,097 copies are refused", refusal(4_097) == 5),
+        ("the listed frame", listing(&two_copies(cube(16.0))) == LISTED),
+    ];
+    for (name, holds) in examples {
+        if !holds {
+            println!("DIFFERENCE: document 01's example does not hold of the second reading: {name}");
+            exit(1);
+        }
+    }
+    println!("document 01's checked frames: {} hold of the second reading", examples.len());
+}

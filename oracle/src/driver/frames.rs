@@ -1,0 +1,146 @@
+//! Where the cases come from: every group gives its case number N of a seed, the same each time.
+
+use crate::case::Case;
+use crate::rng::Rng;
+use parts::*;
+
+mod damage;
+mod full;
+mod lists;
+mod parts;
+mod tiny;
+
+pub use full::FULL;
+
+pub const GROUPS: [&str; 6] = ["tables", "tiny", "random", "damaged", "degenerate", "full"];
+
+/// Case `number` of a group; None past the end of a group that ends.
+pub fn case(group: &str, seed: u64, number: u64) -> Option<Case> {
+    let at = GROUPS.iter().position(|g| *g == group)? as u64;
+    let mut rng = Rng::new(seed, at, number);
+    match group {
+        "tables" => tiny::table(number, &mut rng),
+        "tiny" => tiny::frame(number, &mut rng),
+        "random" => Some(random(&mut rng)),
+        "damaged" => Some(damage::damaged(&mut rng)),
+        "degenerate" => Some(degenerate(&mut rng)),
+        _ => full::full(number, &mut rng),
+    }
+}
+
+/// Everything around a frame: rows, pairs, tables.
+fn around(mut c: Case, rng: &mut Rng) -> Case {
+    let kept = reading::select_by_words(&c.solutes, c.per, &c.indices).len();
+    if kept <= reading::COPIES {
+        c.rows = rows(kept, rng);
+        if kept > 0 {
+            for _ in 0..rng.between(0, 4) {
+                c.pairs.push((rng.below(kept), rng.below(kept)));
+            }
+        }
+    }
+    c.slack = slack(rng);
+    c.fill = fill(rng);
+    c
+}
+
+pub fn random(rng: &mut Rng) -> Case {
+    let cell = cell(rng);
+    let size = rng.below(40);
+    let (n, w) = match size {
+        0 => (rng.between(100, 300), rng.between(0, 500)),
+        1..=4 => (rng.between(13, 60), rng.between(0, 100)),
+        _ => (rng.between(0, 12), rng.between(0, 20)),
+    };
+    let per = rng.pick(&[1, 1, 1, 2, 3, 4, 6]);
+    let spread = rng.pick(&[Spread::Inside, Spread::Inside, Spread::Edges, Spread::Around, Spread::Far, Spread::Mixed]);
+    let spoiled = rng.pick(&[0, 0, 0, 10, 2]);
+    let crowded = rng.pick(&[0, 3, 6, 9]);
+    let mut solutes = copies(n, per, &cell, spread, crowded, spoiled, rng);
+    if rng.one_in(4) {
+        // A trailing short chunk.
+        let extra = points(rng.below(per), &cell, spread, 0, rng);
+        solutes.extend(extra);
+    }
+    let waters = points(w, &cell, spread, spoiled, rng);
+    let per = match rng.below(60) {
+        0 => rng.pick(&[0, usize::MAX, 1 << 32, (1 << 32) + 1, 1 << 63, 65_537]),
+        1 => rng.between(0, 8),
+        _ => per,
+    };
+    let indices = indices(per, rng);
+    let case = Case { shape: "random".into(), cell, solutes, per, indices, waters, ..Case::default() };
+    around(case, rng)
+}
+
+pub fn degenerate(rng: &mut Rng) -> Case {
+    let mut cell = if rng.one_in(2) { odd_cell(rng) } else { cell(rng) };
+    let n = rng.between(0, 24);
+    let w = rng.between(0, 30);
+    let per = rng.pick(&[1, 1, 2, 3]);
+    let kind = rng.below(11);
+    let (shape, solutes, waters) = match kind {
+        0 => {
+            let p = point(&cell, Spread::Mixed, rng);
+            let solutes: Vec<f32> = p.repeat(n * per);
+            let waters = if rng.one_in(2) { p.repeat(w) } else { points(w, &cell, Spread::Inside, 0, rng) };
+            ("all copies in one place", solutes, waters)
+        }
+        1 => {
+            let places = [point(&cell, Spread::Edges, rng), point(&cell, Spread::Edges, rng)];
+            let solutes = (0..n * per).flat_map(|_| places[rng.below(2)]).collect();
+            ("two places", solutes, points(w, &cell, Spread::Edges, 0, rng))
+        }
+        2 => {
+            let step = rng.pick(&[4.0, 4.2, 4.199_999, 4.3, -4.0, -4.2]);
+            let start = point(&cell, Spread::Inside, rng);
+            let axis = rng.below(3);
+            let mut solutes = Vec::new();
+            for i in 0..n * per {
+                let mut p = start;
+                p[axis] += step * (i / per) as f32;
+                solutes.extend(limit(p));
+            }
+            ("a line", solutes, points(w, &cell, Spread::Around, 0, rng))
+        }
+        3 => {
+            cell = cube(rng.pick(&[-1.0, -0.0, 0.0]), rng.pick(&[1.0, 10.0]));
+            let zeros = |k: usize, rng: &mut Rng| (0..3 * k).map(|_| rng.pick(&[0.0, -0.0, 1e-45, -1e-45])).collect();
+            ("both zeros", zeros(n * per, rng), zeros(w, rng))
+        }
+        4 => ("far outside", points(n * per, &cell, Spread::Far, 0, rng), points(w, &cell, Spread::Far, 0, rng)),
+        5 => ("hardly a finite atom", points(n * per, &cell, Spread::Mixed, 1 + rng.below(2), rng), points(w, &cell, Spread::Mixed, 1, rng)),
+        6 => ("no waters", points(n * per, &cell, Spread::Mixed, 0, rng), vec![]),
+        7 => ("no solutes", vec![], points(w, &cell, Spread::Mixed, 0, rng)),
+        8 => {
+            // Copies so close that a path of boxes goes down to the least width.
+            let mut solutes = Vec::new();
+            for _ in 0..n {
+                let p = point(&cell, Spread::Inside, rng);
+                let tiny = rng.pick(&[0.0, 1e-6, 1e-3, 0.1, 0.7]);
+                for _ in 0..2 * per {
+                    solutes.extend(limit(p.map(|x| x + tiny * rng.unit())));
+                }
+            }
+            ("close pairs", solutes, points(w, &cell, Spread::Inside, 0, rng))
+        }
+        9 => {
+            let n = rng.between(2, 40);
+            let solutes = points(n * per, &cell, Spread::Edges, 0, rng);
+            ("only edges", solutes, points(w, &cell, Spread::Edges, 0, rng))
+        }
+        _ => {
+            // Copies on a lattice of the cutoff: many contacts exactly at the edge.
+            let step = rng.pick(&[4.2, 2.1, 4.2_f32.next_up(), 4.2_f32.next_down()]);
+            let mut solutes = Vec::new();
+            for _ in 0..n * per {
+                solutes.extend([0, 1, 2].map(|axis| cell[axis] + step * rng.below(4) as f32));
+            }
+            let solutes = solutes.into_iter().map(|x: f32| x.clamp(-1_048_576.0, 1_048_576.0)).collect();
+            ("a lattice of the cutoff", solutes, points(w, &cell, Spread::Inside, 0, rng))
+        }
+    };
+    let indices = if rng.one_in(3) { indices(per, rng) } else { vec![] };
+    let case = Case { shape: shape.into(), cell, solutes, per, indices, waters, ..Case::default() };
+    around(case, rng)
+}

@@ -1,0 +1,125 @@
+//! Full-size frames: 4,096 copies, 65,536 picks, 65,536 waters, and one more of each. Cheap ones first.
+
+use super::around;
+use super::parts::{Spread, copies, cube, point, points};
+use crate::case::{Case, Lent};
+use crate::rng::Rng;
+
+/// What a round of the group holds, with about how many seconds a case takes.
+pub const FULL: [(&str, u64); 14] = [
+    ("4,097 copies", 1),
+    ("65,792 picks", 1),
+    ("4,096 copies uniform, 5,000 waters", 3),
+    ("4,096 copies in one place, 65,536 waters", 4),
+    ("a line of 4,096 copies, rows rising", 4),
+    ("a line of 4,096 copies, rows falling", 4),
+    ("4,096 copies uniform, 65,536 waters, a node table one record short", 6),
+    ("2,048 close pairs in the widest cell", 6),
+    ("256 copies of 256 picks, repeated and crowded", 5),
+    ("512 copies of 16 picks, 65,536 waters", 8),
+    ("4,096 copies of 16 picks, crowded", 15),
+    ("4,096 copies of 4 picks, 65,536 waters", 20),
+    ("1 copy of 65,536 picks", 3),
+    ("4,096 copies of 16 picks, 65,536 waters", 150),
+];
+
+pub fn full(number: u64, rng: &mut Rng) -> Option<Case> {
+    let at = number as usize % FULL.len();
+    let cell = cube(0.0, 160.0);
+    let plain = |n: usize, per: usize, rng: &mut Rng| copies(n, per, &cell, Spread::Inside, 0, 0, rng);
+    // Now and then a water is not finite; else there are as many finite ones as may be.
+    let spoiled = if at % 2 == 0 { 50 } else { 0 };
+    let waters = |n: usize, rng: &mut Rng| points(n, &cell, Spread::Mixed, spoiled, rng);
+    let mut c = Case { shape: FULL[at].0.into(), cell, per: 1, ..Case::default() };
+    match at {
+        0 => {
+            c.solutes = plain(4_097, 1, rng);
+            c.waters = waters(10, rng);
+        }
+        1 => {
+            c.solutes = plain(257, 1, rng);
+            c.indices = vec![0; 256];
+            c.waters = waters(10, rng);
+        }
+        2 => {
+            c.solutes = plain(4_096, 1, rng);
+            c.waters = waters(5_000, rng);
+        }
+        3 => {
+            c.solutes = [80.5, 3.25, 159.9].repeat(4_096);
+            c.waters = waters(65_536, rng);
+        }
+        4 | 5 => {
+            // In the original's scan each row joins the next copy: chains without rank get long.
+            c.cell = [0.0, 0.0, 0.0, 60_000.0, 30.0, 30.0];
+            for i in 0..4_096 {
+                let x = if at == 4 { i } else { 4_095 - i };
+                c.solutes.extend([4.0 * x as f32, 1.0, 29.0]);
+            }
+            c.waters = points(2_000, &c.cell, Spread::Inside, 0, rng);
+        }
+        6 => {
+            c.solutes = copies(4_096, 1, &cell, Spread::Mixed, 3, 0, rng);
+            c.waters = waters(65_536, rng);
+        }
+        7 => {
+            c.cell = cube(-65_536.0, 65_536.0);
+            for _ in 0..2_048 {
+                let p = point(&c.cell, Spread::Inside, rng);
+                c.solutes.extend(p);
+                c.solutes.extend(p.map(|x| x + 3.0 * rng.unit()));
+            }
+            c.waters = points(3_000, &c.cell, Spread::Inside, 0, rng);
+        }
+        8 => {
+            c.per = 4;
+            c.cell = cube(-3.0, 3.0);
+            c.solutes = copies(256, 4, &c.cell, Spread::Around, 2, 0, rng);
+            c.indices = (0..256).map(|i| i % 4).collect();
+            c.waters = points(1_000, &c.cell, Spread::Mixed, 50, rng);
+        }
+        9 => {
+            c.per = 16;
+            c.solutes = plain(512, 16, rng);
+            c.waters = waters(65_536, rng);
+        }
+        10 => {
+            c.per = 16;
+            c.cell = cube(0.0, 10.0);
+            c.solutes = copies(4_096, 16, &c.cell, Spread::Inside, 9, 0, rng);
+            c.waters = points(5_000, &c.cell, Spread::Inside, 0, rng);
+        }
+        11 => {
+            c.per = 4;
+            c.solutes = plain(4_096, 4, rng);
+            c.waters = waters(65_536, rng);
+        }
+        12 => {
+            c.per = 65_536;
+            c.solutes = points(65_536, &cell, Spread::Mixed, 0, rng);
+            c.waters = waters(65_536, rng);
+        }
+        _ => {
+            c.per = 16;
+            c.solutes = plain(4_096, 16, rng);
+            c.waters = waters(65_536, rng);
+        }
+    }
+    let mut c = around(c, rng);
+    let n = c.atoms() / c.per;
+    c.rows = (0..n).collect();
+    if at == 5 {
+        c.rows.reverse();
+    }
+    // Tables of just the right size or longer; the small ones have had the short tables.
+    c.slack = c.slack.map(|s| s.max(0));
+    if at == 6 {
+        let node_tables = [(Lent::Records, -8), (Lent::Boxes, -6), (Lent::Leaves, -8)];
+        let (short, by) = node_tables[number as usize / FULL.len() % 3];
+        c.slack[short as usize] = by;
+    }
+    if n > reading::COPIES {
+        c.rows = vec![];
+    }
+    Some(c)
+}

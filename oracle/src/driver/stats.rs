@@ -1,0 +1,79 @@
+//! What was compared, by call and answer, and what the frames were like.
+
+use std::collections::BTreeMap;
+
+#[derive(Clone, Copy, PartialEq, Eq, PartialOrd, Ord, Debug)]
+pub enum Call {
+    Select,
+    Open,
+    Touch,
+    Row,
+    Close,
+    Centers,
+    Dispersion,
+    Tree,
+    Report,
+    Frame,
+    /// The second reading against the original's own whole functions.
+    Original,
+    /// The program `frame` against the second reading's listing.
+    Program,
+}
+
+/// In the place of a refusal's number: a blank frame.
+pub const BLANK: u32 = 1000;
+
+#[derive(Default, Clone)]
+pub struct Stats {
+    pub answers: BTreeMap<Call, BTreeMap<u32, u64>>,
+    pub entries: u64,
+    pub groups: BTreeMap<&'static str, u64>,
+    pub frames: u64,
+    pub with_contacts: u64,
+    pub with_split: u64,
+    pub with_dry: u64,
+    pub with_wet: u64,
+    pub dry_leaves: u64,
+    pub wet_leaves: u64,
+    pub contacts: u64,
+    pub most_nodes: u32,
+    pub greatest_depth: u32,
+    pub most_copies: u32,
+    pub most_picks: u32,
+    pub most_waters: u32,
+}
+
+impl Stats {
+    pub fn count(&mut self, call: Call, answer: u32) {
+        *self.answers.entry(call).or_default().entry(answer).or_default() += 1;
+    }
+
+    pub fn print(&self) {
+        println!("frames and tables by group:");
+        for (group, n) in &self.groups {
+            println!("  {group:<12} {n}");
+        }
+        println!("calls compared, by answer (0 success, else the refusal):");
+        for (call, answers) in &self.answers {
+            let total: u64 = answers.values().sum();
+            let each: Vec<String> = answers
+                .iter()
+                .map(|(&a, n)| if a == BLANK { format!("blank: {n}") } else { format!("{a}: {n}") })
+                .collect();
+            println!("  {:<12} {total:>10}   {}", format!("{call:?}").to_lowercase(), each.join("  "));
+        }
+        println!("table entries compared: {}", self.entries);
+        println!(
+            "scans: {} with contacts ({} contacts)",
+            self.with_contacts, self.contacts
+        );
+        println!(
+            "reports: {} accepted, {} with a split node, {} with dry leaves ({}), {} with wet leaves ({})",
+            self.frames, self.with_split, self.with_dry, self.dry_leaves, self.with_wet, self.wet_leaves
+        );
+        println!(
+            "greatest: {} copies, {} picks, {} waters, {} nodes, depth {}",
+            self.most_copies, self.most_picks, self.most_waters, self.most_nodes, self.greatest_depth
+        );
+    }
+}
