@@ -87,24 +87,27 @@ module _ (touch : ℕ → ℕ → Bool) (n : ℕ) where
       go (yes l) (no m) = rw (le-ltb b n (omega arith))
       go (no l) d = rw (le-ltb a b (omega arith))
 
-  -- some table holds the graph of the rows below k
-  rows-below : (k : ℕ) → k ≤ n → (t : List ℕ) × State touch n (λ i. ltb i k) t
-  rows-below zero l =
-      let lent = replicate {A = ℕ} (words n) 0 in (
-        opened n lent,
-        same-rows (λ i. false) (λ i. ltb i 0) (opened n lent) (λ i. sym (le-ltb i 0 zero-le)) (state-first lent (omega (arith, length-replicate {A = ℕ} (words n) 0))),
-      )
-  rows-below (suc k) l =
-      let w = rows-below k (omega arith) in (
-        rowTable touch n k (w .0),
-        same-rows (with-row k (λ i. ltb i k)) (λ i. ltb i (suc k)) (rowTable touch n k (w .0)) up (row-table-holds touch n (λ i. ltb i k) k l (le-ltb k k (le-refl k)) (w .1)),
-      )
+  -- row k adds itself to the rows below it
+  pub next-row : (k : ℕ) {t : List ℕ} → k < n → State touch n (λ i. ltb i k) t → State touch n (λ i. ltb i (suc k)) (rowTable touch n k t)
+  next-row k {t} l s =
+      same-rows (with-row k (λ i. ltb i k)) (λ i. ltb i (suc k)) (rowTable touch n k t) up (row-table-holds touch n (λ i. ltb i k) k l (le-ltb k k (le-refl k)) s)
     where
       up : (i : ℕ) → (eqb k i || ltb i k) ≡ ltb i (suc k)
       up i =
           decide k i
           (λ e. rw (eq-eqb k i e) (sym (lt-ltb i (suc k) (omega arith))))
           (λ m. rw (ne-eqb k i m) (ltb-skip i k (λ e. m (sym e))))
+
+  -- a table that holds no row yet, as the rows below 0
+  pub no-row : {t : List ℕ} → State touch n (λ i. false) t → State touch n (λ i. ltb i 0) t
+  no-row {t} s = same-rows (λ i. false) (λ i. ltb i 0) t (λ i. sym (le-ltb i 0 zero-le)) s
+
+  -- some table holds the graph of the rows below k
+  rows-below : (k : ℕ) → k ≤ n → (t : List ℕ) × State touch n (λ i. ltb i k) t
+  rows-below zero l =
+      let lent = replicate {A = ℕ} (words n) 0 in
+      (opened n lent, no-row (state-first lent (omega (arith, length-replicate {A = ℕ} (words n) 0))))
+  rows-below (suc k) l = let w = rows-below k (omega arith) in (rowTable touch n k (w .0), next-row k l (w .1))
 
   -- the contact graph has a largest cluster
   pub largest-contact : 0 < n → (m : ℕ) × Largest n (contactGraph touch n) m

@@ -50,7 +50,7 @@ module _ {n : ℕ} {g : ℕ → ℕ → Bool} {acc : ℕ → Bool} {t : List ℕ
   words-at i l =
       words-right n t i (rw (s .degrees i l) (degree-below n g i (s .inside) l)) (rw (s .marks i l) (bit-le (acc i)))
 
-  sound-table : soundTable n t ≡ true
+  pub sound-table : soundTable n t ≡ true
   sound-table =
       sym (table-words n t (s .own) (rw (s .contacts-are) (contacts-few n g (s .inside))) (sound-parents (parents n t) .1 (s .sound)))
       ∙ all-true n (soundWords n t) words-at

@@ -23,6 +23,8 @@ pub mod Held
 pub mod Calls
 -- the order rule, and that the fractions do not depend on the order
 pub mod OrderRule
+-- every row in rising order: each is accepted
+pub mod Scans
 -- a run worked out: ten calls on four copies
 pub mod Examples
 -- what a refusal leaves; Open's refusals; Row's refusals of a table

@@ -25,7 +25,7 @@ use Rattle.clusters.proofs.Held.{row-answer, close-answer, close-gives}
 use Rattle.clusters.proofs.Calls.{State, same-rows, state-first, state-answer, answer-length, full, largest-contact}
 
 module _ (f : Input) where
-  inputs : List Refusal
+  unfoldable pub inputs : List Refusal
   inputs = inputRefusals (f .cell) (f .solutes) [] (f .starts) (f .picks)
 
   -- the refusals of the input first, then those of another list
@@ -37,7 +37,7 @@ module _ (f : Input) where
   unfolding inputs answer rowRefusal
   row-is t i = refl
 
-  row-leaves : (t : List ℕ) (i : ℕ) → leaves f t (row i) ≡ unlessRefused (answer f t (row i)) (rowTable (touchOf f) (copiesOf f) i t) t
+  pub row-leaves : (t : List ℕ) (i : ℕ) → leaves f t (row i) ≡ unlessRefused (answer f t (row i)) (rowTable (touchOf f) (copiesOf f) i t) t
   unfolding leaves rowLeaves answer touchOf
   row-leaves t i = refl
 
@@ -118,7 +118,7 @@ module _ (f : Input) where
 
   -- ---- what a call answers, and the rule
   module _ (acc : ℕ → Bool) (t : List ℕ) (few : copiesOf f ≤ 4096) (s : State (touchOf f) (copiesOf f) acc t) where
-    rows-rule : (i : ℕ) → answer f t (row i) ≡ firstRefusal (inputs ++ (refuse 10 (leb (copiesOf f) i) ∷ refuse 11 (acc i) ∷ []))
+    pub rows-rule : (i : ℕ) → answer f t (row i) ≡ firstRefusal (inputs ++ (refuse 10 (leb (copiesOf f) i) ∷ refuse 11 (acc i) ∷ []))
     unfolding firstRefusal
     rows-rule i =
         row-is t i ∙ first-of (tableRefusals (copiesOf f) t i)

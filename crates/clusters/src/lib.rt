@@ -3,15 +3,18 @@
 // (the order rule, specs/Order.antt).
 ghost use mathlib.Core.Path.{_≡_};
 ghost use mathlib.Core.Bool.{true};
+ghost use mathlib.Core.List.{[], _∷_};
 ghost use Prim.Native.Nat.{_+_, _^_, _<_, _≤_};
 ghost use lib.Dec.{ltb, eqb};
 ghost use lib.ListN.{length, getD, set};
-ghost use Rattle.cell.specs.Refusals.{numberOf};
+ghost use Rattle.cell.specs.Refusals.{numberOf, firstRefusal};
 ghost use Rattle.selection.specs.Sound.{soundLists, copiesIn};
+ghost use Rattle.selection.specs.Input.{inputRefusals};
 ghost use Rattle.touch.specs.Touch.{copiesTouch};
 ghost use Rattle.union_find.specs.Range.{allBelow, count};
 ghost use Rattle.union_find.specs.Parents.{soundParents};
 ghost use Rattle.clusters.specs.Table.{parents, degree, contacts, mark, words, pairs, contact, rowTable, opened, soundWords, soundTable};
+ghost use Rattle.clusters.specs.Scan.{scanned};
 ghost use Rattle.clusters.specs.Answers.{closeNumber, fractionsOf, openRefusal, openLeaves, rowRefusal, rowLeaves, closeRefusal, closeFractions, ratio, tableFractions};
 use cell::Answer;
 use cell::Cell;
@@ -21,6 +24,13 @@ use cell::limits::MAX_COPIES;
 pub enum Closing {
     Fractions(f32, f32, f32),
     Refused(u32),
+}
+
+// The three fractions of a table.
+pub struct ClusterFractions {
+    pub largest: f32,
+    pub contacted: f32,
+    pub pair: f32,
 }
 
 fn wide(x: u32) -> usize
@@ -195,6 +205,21 @@ pub fn row(
     Answer::Accepted
 }
 
+// Opens the table and scans every row in rising order, for input that nothing refuses: the core of the whole frame.
+pub fn scan_all(cell: Cell, solutes: &[f32], starts: &[u32], picks: &[u32], table: &mut [u32])
+    requires { ⌜ firstRefusal (inputRefusals cell (now solutes) [] (now starts) (now picks)) ≡ 0 ⌝ }
+    requires { ⌜ words (copiesIn (now starts)) ≤ length (now table) ⌝ }
+    ensures { λ _. ⌜ now (table .exit) ≡ scanned cell (now (solutes .entry)) (now (starts .entry)) (now (picks .entry)) (now (table .entry)) ⌝ }
+{
+    let n = starts.len() - 1;
+    open_table(table, n);
+    let mut i = 0;
+    while i < n {
+        scan_row(cell, solutes, starts, picks, table, i);
+        i += 1;
+    }
+}
+
 // ---- Close
 
 // Whether every row is accepted.
@@ -237,22 +262,25 @@ fn quotient(a: u32, b: u32) -> f32
 }
 
 // The three fractions of a sound table of n copies.
-pub fn fractions(table: &[u32], n: usize) -> Closing
+pub fn fractions(table: &[u32], n: usize) -> ClusterFractions
     requires { ⌜ (n ≤ 4096) × (words n ≤ length (now table)) ⌝ }
     requires { ⌜ soundTable n (now table) ≡ true ⌝ }
-    ensures number { λ r. ⌜ closeNumber r ≡ 0 ⌝ }
-    ensures values { λ r. ⌜ fractionsOf r ≡ tableFractions (now (table .entry)) ⌝ }
+    ensures { λ r. ⌜ (r .largest ∷ r .contacted ∷ r .pair ∷ []) ≡ tableFractions (now (table .entry)) ⌝ }
 {
     if n < 2 {
-        return Closing::Fractions(0.0, 0.0, 0.0);
+        return ClusterFractions {
+            largest: 0.0,
+            contacted: 0.0,
+            pair: 0.0,
+        };
     }
     let end = 2 + n;
     let largest = union_find::largest_set(&table[2..end]);
-    Closing::Fractions(
-        quotient(largest - 1, (n - 1) as u32),
-        quotient(contacted(table, n), n as u32),
-        quotient(table[1], pair_count(n) as u32),
-    )
+    ClusterFractions {
+        largest: quotient(largest - 1, (n - 1) as u32),
+        contacted: quotient(contacted(table, n), n as u32),
+        pair: quotient(table[1], pair_count(n) as u32),
+    }
 }
 
 // Close: 7, 9, 12 in this order, or the three fractions; it writes nothing.
@@ -276,5 +304,6 @@ pub fn close(table: &[u32]) -> Closing
     if !all_marked(table, n) {
         return Closing::Refused(12);
     }
-    fractions(table, n)
+    let f = fractions(table, n);
+    Closing::Fractions(f.largest, f.contacted, f.pair)
 }

@@ -1,6 +1,6 @@
 -- `clusters::close` meets its contract: each return knows the tests before it (Closes); `e1` is the place past the first
 -- test, `e2` past the second, and so on. Assumes nothing.
-use mathlib.Core.Path.{sym, _∙_}
+use mathlib.Core.Path.{refl, sym, _∙_}
 use native.Mathlib.Omega.{arith}
 use borrow.Author.Tests.{not-false}
 use Rattle.clusters.proofs.Closes.{no-words, short, many-copies, unsound, waits, gives}
@@ -70,7 +70,7 @@ returns-6 c =
     let e2 = e3 .before in
     let e1 = e2 .before .before .before in
     gives _ _ (e2 .before .wide .ensures) (e1 .if1 .left) (e2 .if2 .left) (e3 .if3 .left) _ (e4 .before .table-sound .ensures) (e4 .if4 .left)
-    _ (e5 .before .all-marked .ensures) (e5 .if5 .left) _ _ (c .fractions .ensures .0) (c .fractions .ensures .1)
+    _ (e5 .before .all-marked .ensures) (e5 .if5 .left) 0 _ refl (c .fractions .ensures)
 
 pub close-spec : {M : Type 1} → statement M
 close-spec =

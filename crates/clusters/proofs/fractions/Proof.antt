@@ -1,6 +1,5 @@
 -- `clusters::fractions` meets its contract. A sound table has its own n, a largest set of 1 to n copies and at most n (n - 1) / 2
 -- contacts (Checks, Closes): so nothing runs below 0, and f32 holds each number. Assumes nothing.
-use mathlib.Core.Path.{refl}
 use native.Mathlib.Omega.{arith}
 use Rattle.union_find.proofs.Ranges.{count-bounded}
 use Rattle.clusters.proofs.Checks.{ready-of}
@@ -14,7 +13,7 @@ returns : tie.Need-returns
 returns c =
     let st = c .before .before in
     let r = ready-of (st .args .n) (st .args .table .now) (st .pre .0 .0) (st .pre .1) in
-    (refl, few (st .args .n) (st .args .table .now) (r .own) (c .if1 .taken))
+    few (st .args .n) (st .args .table .now) (r .own) (c .if1 .taken)
 
 add-end : tie.Need-add-end
 add-end c = search needs
@@ -85,12 +84,10 @@ returns-2 c =
     let found = counted .before .before in
     let e1 = found .before .before in
     let st = e1 .before .before in
-    let r = ready-of (st .args .n) (st .args .table .now) (st .pre .0 .0) (st .pre .1) in (
-      refl,
-      three (st .args .n) (st .args .table .now) (r .own) _ _ _ _ _ _ (e1 .if1 .left)
-          (lent-largest (st .args .n) (st .args .table .now) (st .pre .0) (r .sound) _ (found .largest-set .ensures)) (counted .contacted .ensures) (c .before .pair-count .ensures)
-          (counted .before .quotient .ensures) (c .before .before .before .quotient2 .ensures) (c .quotient3 .ensures),
-    )
+    let r = ready-of (st .args .n) (st .args .table .now) (st .pre .0 .0) (st .pre .1) in
+    three (st .args .n) (st .args .table .now) (r .own) _ _ _ _ _ _ (e1 .if1 .left)
+    (lent-largest (st .args .n) (st .args .table .now) (st .pre .0) (r .sound) _ (found .largest-set .ensures)) (counted .contacted .ensures) (c .before .pair-count .ensures)
+    (counted .before .quotient .ensures) (c .before .before .before .quotient2 .ensures) (c .quotient3 .ensures)
 
 pub fractions-spec : {M : Type 1} → statement M
 fractions-spec =
