@@ -2,7 +2,7 @@
 -- A call that takes no waters or no indices has the empty list in their place. Definitions only. Assumes nothing.
 use Prim.Native.Nat.{ℕ, _*_, _%_}
 use mathlib.Core.Bool.{Bool, false, not, _&&_, _||_}
-use mathlib.Core.List.{List, [], _∷_}
+use mathlib.Core.List.{List, [], _∷_, _++_}
 use lib.Dec.{ltb, eqb}
 use lib.ListN.{length}
 use lib.Ieee.{Float, binary32, lt, neg, ofBits}
@@ -78,7 +78,12 @@ unfoldable pub validity : Cell → Refusal
 unfolding valid
 validity c = refuse 15 (not (valid c))
 
+-- 1, 2, 3, 4: the limits, in this order
+unfoldable pub limitRefusals : Cell → List Float → List Float → List ℕ → List Refusal
+unfolding lengths counts bounds coordinates
+limitRefusals c solutes waters indices = lengths solutes waters ∷ counts solutes waters indices ∷ bounds c ∷ coordinates solutes waters ∷ []
+
 -- what Row, Centers, Dispersion (with no waters), Tree and Report test before all else: 1, 2, 3, 4, 15
 unfoldable pub frameRefusals : Cell → List Float → List Float → List Refusal
-unfolding lengths counts bounds coordinates validity
-frameRefusals c solutes waters = lengths solutes waters ∷ counts solutes waters [] ∷ bounds c ∷ coordinates solutes waters ∷ validity c ∷ []
+unfolding limitRefusals validity
+frameRefusals c solutes waters = limitRefusals c solutes waters [] ++ (validity c ∷ [])

@@ -3,7 +3,7 @@
 use crate::Cell;
 ghost use mathlib.Core.Path.{_≡_};
 ghost use lib.ListN.{length};
-ghost use Rattle.cell.specs.Limits.{over as overOf, anyOver, ragged as raggedOf, long as longOf, boundOver, frameRefusals, maxCoordinate};
+ghost use Rattle.cell.specs.Limits.{over as overOf, anyOver, ragged as raggedOf, long as longOf, boundOver, limitRefusals, frameRefusals, maxCoordinate};
 ghost use Rattle.cell.specs.Refusals.{firstRefusal};
 
 pub const MAX_ATOMS: usize = 65536;
@@ -64,14 +64,14 @@ pub fn long(xs: &[f32]) -> bool
     xs.len() > MAX_ATOMS * 3
 }
 
-// The first of 1, 2, 3, 4 and 15 that holds, or 0: what every call on a cell and its coordinates tests before all else.
-pub fn frame_refusal(cell: Cell, solutes: &[f32], waters: &[f32]) -> u32
-    ensures { λ r. ⌜ r ≡ firstRefusal (frameRefusals cell (now (solutes .entry)) (now (waters .entry))) ⌝ }
+// The first of 1, 2, 3 and 4 that holds, or 0.
+pub fn limit_refusal(cell: Cell, solutes: &[f32], waters: &[f32], indices: &[u32]) -> u32
+    ensures { λ r. ⌜ r ≡ firstRefusal (limitRefusals cell (now (solutes .entry)) (now (waters .entry)) (now (indices .entry))) ⌝ }
 {
     if ragged(solutes) | ragged(waters) {
         return 1;
     }
-    if long(solutes) | long(waters) {
+    if long(solutes) | (long(waters) | (indices.len() > MAX_INDICES)) {
         return 2;
     }
     if bound_over(cell) {
@@ -82,6 +82,18 @@ pub fn frame_refusal(cell: Cell, solutes: &[f32], waters: &[f32]) -> u32
     }
     if coordinate_over(waters) {
         return 4;
+    }
+    0
+}
+
+// The first of 1, 2, 3, 4 and 15 that holds, or 0: what every call on a cell and its coordinates tests before all else.
+pub fn frame_refusal(cell: Cell, solutes: &[f32], waters: &[f32]) -> u32
+    ensures { λ r. ⌜ r ≡ firstRefusal (frameRefusals cell (now (solutes .entry)) (now (waters .entry))) ⌝ }
+{
+    let none = [0u32; 0];
+    let refusal = limit_refusal(cell, solutes, waters, &none);
+    if refusal != 0 {
+        return refusal;
     }
     if !crate::is_valid(cell) {
         return 15;

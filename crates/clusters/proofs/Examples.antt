@@ -7,7 +7,7 @@ use lib.ListN.{replicate}
 use lib.Ieee.{Float, binary32, ofBits, ofInt, add, sub, mul, div, lt, le, neg}
 use Rattle.numbers.specs.Whole.{roundOf}
 use Rattle.cell.specs.Cell.{extentOf, validAxis, valid, minImage, imageAxis, squared, minus, distance2, pointAt, finitePoint}
-use Rattle.cell.specs.Limits.{over, anyOver, ragged, long, longIndices, boundOver, lengths, counts, bounds, coordinates, validity, frameRefusals}
+use Rattle.cell.specs.Limits.{over, anyOver, ragged, long, longIndices, boundOver, lengths, counts, bounds, coordinates, validity, limitRefusals, frameRefusals}
 use Rattle.cell.specs.Refusals.{firstRefusal}
 use Rattle.cell.proofs.Examples.{upTo}
 use Rattle.selection.specs.Selection.{finiteAtom}
@@ -63,7 +63,7 @@ pub record Worked : Type 0 where
   pub fractions : closeFractions (after input opening calls) ≡ ofBits binary32 0x3f2a_aaab ∷ ofBits binary32 0x3f40_0000 ∷ ofBits binary32 0x3eaa_aaab ∷ []
 
 pub worked : Worked
-unfolding input answersOf firstRefusal inputRefusals frameRefusals lengths counts bounds coordinates validity soundness ragged long longIndices
+unfolding input answersOf firstRefusal inputRefusals frameRefusals limitRefusals lengths counts bounds coordinates validity soundness ragged long longIndices
     boundOver anyOver over valid validAxis extentOf soundLists soundStarts rises allFinite finiteAtom finitePoint pointAt touchOf copiesTouch
     pickList anyPair anyIn near cutoff2 distance2 squared minImage imageAxis minus roundOf allBelow count greatest walk rootOf shortened
     compressed joined reachesRoot soundParents setSize largestSet upFrom opened counted contact pass rowTable soundWords soundTable

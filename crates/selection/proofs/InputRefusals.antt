@@ -8,7 +8,7 @@ use native.Mathlib.Omega.{arith}
 use borrow.Author.Tests.{not-false}
 use lib.Ieee.{Float}
 use Rattle.cell.specs.declared.Cell.{Cell}
-use Rattle.cell.specs.Limits.{lengths, counts, bounds, coordinates, validity, frameRefusals}
+use Rattle.cell.specs.Limits.{lengths, counts, bounds, coordinates, validity, limitRefusals, frameRefusals}
 use Rattle.cell.specs.Refusals.{firstRefusal}
 use Rattle.cell.proofs.FirstRefusal.{numbered, first-hit, first-skip, first-none, first-append, append-hit, append-skip}
 use Rattle.cell.proofs.FrameRefusals.{frame-numbered}
@@ -16,7 +16,7 @@ use Rattle.selection.specs.Sound.{soundLists, soundness}
 use Rattle.selection.specs.Input.{inputRefusals}
 
 pub input-numbered : (c : Cell) (xs ws : List Float) (starts picks : List ℕ) → numbered (inputRefusals c xs ws starts picks) ≡ true
-unfolding numbered inputRefusals frameRefusals lengths counts bounds coordinates validity soundness
+unfolding numbered inputRefusals frameRefusals limitRefusals lengths counts bounds coordinates validity soundness
 input-numbered c xs ws starts picks = refl
 
 module _ (c : Cell) (xs ws : List Float) (starts picks : List ℕ) where

@@ -10,7 +10,7 @@ use lib.Dec.{eqb, ltb}
 use lib.ListN.{length}
 use lib.Ieee.{Float}
 use Rattle.cell.specs.declared.Cell.{Cell}
-use Rattle.cell.specs.Limits.{long, maxAtoms, lengths, counts, bounds, coordinates, validity, frameRefusals}
+use Rattle.cell.specs.Limits.{long, maxAtoms, lengths, counts, bounds, coordinates, validity, limitRefusals, frameRefusals}
 use Rattle.cell.specs.Refusals.{Refusal, firstRefusal}
 use Rattle.cell.proofs.FirstRefusal.{numbered, first-hit, first-skip, first-none, append-hit, append-skip}
 use Rattle.cell.proofs.FrameRefusals.{frame-none}
@@ -54,11 +54,11 @@ module _ (c : Cell) (solutes waters : List Float) (starts picks centerOrder wate
   tests = testRefusals c solutes waters starts picks centerOrder waterOrder
 
   tests-numbered : numbered tests ≡ true
-  unfolding numbered testRefusals inputRefusals orderRefusal frameRefusals lengths counts bounds coordinates validity soundness
+  unfolding numbered testRefusals inputRefusals orderRefusal frameRefusals limitRefusals lengths counts bounds coordinates validity soundness
   tests-numbered = refl
 
   tests-without : without 13 tests ≡ true
-  unfolding without testRefusals inputRefusals orderRefusal frameRefusals lengths counts bounds coordinates validity soundness
+  unfolding without testRefusals inputRefusals orderRefusal frameRefusals limitRefusals lengths counts bounds coordinates validity soundness
   tests-without = refl
 
   -- ---- the tests

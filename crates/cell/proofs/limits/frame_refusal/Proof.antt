@@ -1,97 +1,41 @@
--- `cell::limits::frame_refusal` meets its contract. The refusals are one chain of tests (`frame-chain`), and each return knows
--- the tests up to it: `e1` is the place past the first test, `e2` past the second, and so on. Assumes nothing.
+-- `cell::limits::frame_refusal` meets its contract: the limits decide, and where none of them refuses, whether the cell is valid.
+-- Assumes nothing.
+use mathlib.Core.Path.{sym, ap, _∙_}
+use mathlib.Core.Bool.{Bool, cond}
 use borrow.Author.Needs.{needs}
-use Rattle.cell.proofs.FrameRefusals.{frame-chain}
+use Rattle.cell.proofs.FrameRefusals.{frame-limit, frame-valid}
 use Rattle.cell.proofs.limits.frame_refusal.Statement.{statement}
 use Rattle.cell.proofs.limits.frame_refusal.Tie as tie
 
-ragged-requires : tie.Need-ragged-requires
-ragged-requires c κs = search needs
+slice-aggregate-limit-refusal : tie.Need-slice-aggregate-limit-refusal
+slice-aggregate-limit-refusal c = search needs
 
-ragged-requires-2 : tie.Need-ragged-requires-2
-ragged-requires-2 c κs = search needs
+limit-refusal-requires : tie.Need-limit-refusal-requires
+limit-refusal-requires c κs = search needs
 
 returns : tie.Need-returns
-returns c = rw (frame-chain, ← c .before .before .ragged .ensures, ← c .before .ragged2 .ensures, c .if1 .taken)
-
-long-requires : tie.Need-long-requires
-long-requires c κs = search needs
-
-long-requires-2 : tie.Need-long-requires-2
-long-requires-2 c κs = search needs
-
-returns-2 : tie.Need-returns-2
-returns-2 c =
-    let e1 = c .before .before .before in
-    rw (frame-chain, ← e1 .before .before .ragged .ensures, ← e1 .before .ragged2 .ensures, e1 .if1 .left, ← c .before .before .long .ensures, ← c .before .long2 .ensures, c .if2 .taken)
-
-bound-over-requires : tie.Need-bound-over-requires
-bound-over-requires c κs = search needs
-
-returns-3 : tie.Need-returns-3
-returns-3 c =
-    let e2 = c .before .before in
-    let e1 = e2 .before .before .before in
-    rw (frame-chain, ← e1 .before .before .ragged .ensures, ← e1 .before .ragged2 .ensures, e1 .if1 .left, ← e2 .before .before .long .ensures, ← e2 .before .long2 .ensures, e2 .if2 .left, ← c .before .bound-over .ensures, c .if3 .taken)
-
-coordinate-over-requires : tie.Need-coordinate-over-requires
-coordinate-over-requires c κs = search needs
-
-returns-4 : tie.Need-returns-4
-returns-4 c =
-    let e3 = c .before .before in
-    let e2 = e3 .before .before in
-    let e1 = e2 .before .before .before in
-    rw (frame-chain, ← e1 .before .before .ragged .ensures, ← e1 .before .ragged2 .ensures, e1 .if1 .left, ← e2 .before .before .long .ensures, ← e2 .before .long2 .ensures, e2 .if2 .left, ← e3 .before .bound-over .ensures, e3 .if3 .left, ← c .before .coordinate-over .ensures, c .if4 .taken)
-
-coordinate-over-requires-2 : tie.Need-coordinate-over-requires-2
-coordinate-over-requires-2 c κs = search needs
-
-returns-5 : tie.Need-returns-5
-returns-5 c =
-    let e4 = c .before .before in
-    let e3 = e4 .before .before in
-    let e2 = e3 .before .before in
-    let e1 = e2 .before .before .before in
-    rw (frame-chain, ← e1 .before .before .ragged .ensures, ← e1 .before .ragged2 .ensures, e1 .if1 .left, ← e2 .before .before .long .ensures, ← e2 .before .long2 .ensures, e2 .if2 .left, ← e3 .before .bound-over .ensures, e3 .if3 .left, ← e4 .before .coordinate-over .ensures, e4 .if4 .left, ← c .before .coordinate-over2 .ensures, c .if5 .taken)
+returns c = frame-limit _ _ _ _ (c .before .limit-refusal .ensures) (c .if1 .taken)
 
 is-valid-requires : tie.Need-is-valid-requires
 is-valid-requires c κs = search needs
 
-returns-6 : tie.Need-returns-6
-returns-6 c =
-    let e5 = c .before .before in
-    let e4 = e5 .before .before in
-    let e3 = e4 .before .before in
-    let e2 = e3 .before .before in
-    let e1 = e2 .before .before .before in
-    rw (frame-chain, ← e1 .before .before .ragged .ensures, ← e1 .before .ragged2 .ensures, e1 .if1 .left, ← e2 .before .before .long .ensures, ← e2 .before .long2 .ensures, e2 .if2 .left, ← e3 .before .bound-over .ensures, e3 .if3 .left, ← e4 .before .coordinate-over .ensures, e4 .if4 .left, ← e5 .before .coordinate-over2 .ensures, e5 .if5 .left, ← c .before .is-valid .ensures, c .if6 .taken)
+returns-2 : tie.Need-returns-2
+returns-2 c =
+    let e1 = c .before .before in
+    ap (λ (b : Bool). cond b 15 0) (sym (c .if2 .taken)) ∙ frame-valid _ _ _ _ (e1 .before .limit-refusal .ensures) (e1 .if1 .left) _ (c .before .is-valid .ensures)
 
-returns-7 : tie.Need-returns-7
-returns-7 c =
-    let e5 = c .before .before in
-    let e4 = e5 .before .before in
-    let e3 = e4 .before .before in
-    let e2 = e3 .before .before in
-    let e1 = e2 .before .before .before in
-    rw (frame-chain, ← e1 .before .before .ragged .ensures, ← e1 .before .ragged2 .ensures, e1 .if1 .left, ← e2 .before .before .long .ensures, ← e2 .before .long2 .ensures, e2 .if2 .left, ← e3 .before .bound-over .ensures, e3 .if3 .left, ← e4 .before .coordinate-over .ensures, e4 .if4 .left, ← e5 .before .coordinate-over2 .ensures, e5 .if5 .left, ← c .before .is-valid .ensures, c .if6 .left)
+returns-3 : tie.Need-returns-3
+returns-3 c =
+    let e1 = c .before .before in
+    ap (λ (b : Bool). cond b 15 0) (sym (c .if2 .left)) ∙ frame-valid _ _ _ _ (e1 .before .limit-refusal .ensures) (e1 .if1 .left) _ (c .before .is-valid .ensures)
 
 pub frame-refusal-spec : {M : Type 1} → statement M
 frame-refusal-spec =
     tie.close
     (tie.spec
-    ragged-requires
-    ragged-requires-2
+    slice-aggregate-limit-refusal
+    limit-refusal-requires
     returns
-    long-requires
-    long-requires-2
-    returns-2
-    bound-over-requires
-    returns-3
-    coordinate-over-requires
-    returns-4
-    coordinate-over-requires-2
-    returns-5
     is-valid-requires
-    returns-6
-    returns-7)
+    returns-2
+    returns-3)
