@@ -110,3 +110,11 @@ frame-none c solutes waters e = by-limits (firstRefusal (limitRefusals c solutes
           cell-valid = by-valid (valid c) (sym (last c solutes waters 0 found refl) ∙ e);
         }
     by-limits (suc r) found = absurd (omega (arith, frame-limit c solutes waters (suc r) found (λ z. omega arith) ∙ e))
+
+-- a valid cell within the limits, with its solutes alone
+pub within-solutes : (c : Cell) (solutes waters : List Float) (indices : List ℕ) → Within c solutes waters indices → valid c ≡ true → firstRefusal (frameRefusals c solutes []) ≡ 0
+unfolding ragged long anyOver
+within-solutes c solutes waters indices w v = last c solutes [] 0 (sym none) refl ∙ rw v
+  where
+    none : firstRefusal (limitRefusals c solutes [] []) ≡ 0
+    none = limit-chain c solutes [] [] ∙ rw (w .solutes-whole, w .solutes-few, w .bounds-within, w .solutes-within)

@@ -22,11 +22,11 @@ use Rattle.tree.specs.Points.{finiteWaters}
 use Rattle.tree.specs.Tree.{frameTree, orderRefusal, testRefusals, roomRefusal, treeCallRefusal}
 
 -- ---- a number that no refusal of a list has
-unfoldable without : ℕ → List Refusal → Bool
+unfoldable pub without : ℕ → List Refusal → Bool
 without n [] = true
 without n (r ∷ rs) = not (eqb (r .number) n) && without n rs
 
-first-without : (n : ℕ) (rs : List Refusal) → without n rs ≡ true → (0 ≡ n → ⊥) → firstRefusal rs ≡ n → ⊥
+pub first-without : (n : ℕ) (rs : List Refusal) → without n rs ≡ true → (0 ≡ n → ⊥) → firstRefusal rs ≡ n → ⊥
 unfolding without firstRefusal
 first-without n [] w z e = z e
 first-without n (r ∷ rs) w z e =

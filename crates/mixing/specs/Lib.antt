@@ -1,0 +1,2 @@
+-- The whole frame.
+pub mod Frame
