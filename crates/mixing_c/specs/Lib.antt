@@ -1,0 +1,2 @@
+-- The C interface: how a cell comes in, and how a call's answers go out.
+pub mod Interface

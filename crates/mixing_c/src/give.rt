@@ -1,0 +1,173 @@
+// How the C interface takes a cell and gives an answer: each enum by its number, and its values as words of the lent answers table.
+use cell::Answer;
+use cell::Cell;
+use cell::Vec3;
+use clusters::Closing;
+use dispersion::Dispersed;
+use report::Reported;
+use selection::Selected;
+use tree::TreeAnswer;
+ghost use mathlib.Core.Path.{_≡_};
+ghost use mathlib.Core.List.{[], _∷_};
+ghost use Prim.Native.Nat.{ℕ, _^_, _<_, min};
+ghost use lib.ListN.{getD};
+ghost use Rattle.cell.specs.Refusals.{numberOf};
+ghost use Rattle.cell.specs.Tables.{unlessRefused};
+ghost use Rattle.selection.specs.Selection.{refusalOf, valuesOf};
+ghost use Rattle.clusters.specs.Answers.{closeNumber, fractionsOf};
+ghost use Rattle.dispersion.specs.Dispersion.{dispersedNumber, dispersedScore};
+ghost use Rattle.tree.specs.Tree.{treeNumber, treeAnswered};
+ghost use Rattle.report.specs.Report.{reportNumber, reportAnswered};
+ghost use Rattle.mixing_c.specs.Interface.{cellOf, bitsOf, answersAfter};
+
+// The cell of six numbers.
+pub(crate) fn cell(lx: f32, ly: f32, lz: f32, hx: f32, hy: f32, hz: f32) -> Cell
+    ensures { λ r. ⌜ r ≡ cellOf lx ly lz hx hy hz ⌝ }
+{
+    Cell {
+        low: Vec3 {
+            x: lx,
+            y: ly,
+            z: lz,
+        },
+        high: Vec3 {
+            x: hx,
+            y: hy,
+            z: hz,
+        },
+    }
+}
+
+fn shorter(a: usize, b: usize) -> usize
+    ensures { λ r. ⌜ r ≡ min a b ⌝ }
+{
+    if a < b { a } else { b }
+}
+
+// Writes as many of the values as the answers table holds.
+fn words(values: &[u32], answers: &mut [u32])
+    ensures { λ _. ⌜ now (answers .exit) ≡ answersAfter (now (values .entry)) (now (answers .entry)) ⌝ }
+{
+    let n = shorter(values.len(), answers.len());
+    let mut i = 0;
+    while i < n {
+        answers[i] = values[i];
+        i += 1;
+    }
+}
+
+fn word(x: usize) -> u32
+    requires { ⌜ x < 2 ^ 32 ⌝ }
+    ensures { λ r. ⌜ r ≡ x ⌝ }
+{
+    x as u32
+}
+
+// An answer that is acceptance alone.
+pub(crate) fn number(a: Answer) -> u32
+    ensures { λ r. ⌜ r ≡ numberOf a ⌝ }
+{
+    match a {
+        Answer::Accepted => 0,
+        Answer::Refused(n) => n,
+    }
+}
+
+// Select's answer. Its counts fit a word, as do the other calls'.
+pub(crate) fn selected(a: Selected, answers: &mut [u32]) -> u32
+    requires { ⌜ ((k : ℕ) → getD (valuesOf a) k 0 < 2 ^ 32) ⌝ }
+    ensures number { λ r. ⌜ r ≡ refusalOf a ⌝ }
+    ensures answers_after { λ r. ⌜ now (answers .exit) ≡ answersAfter (valuesOf a) (now (answers .entry)) ⌝ }
+{
+    match a {
+        Selected::Refused(n) => n,
+        Selected::Kept { copies, picks } => {
+            let values = [word(copies), word(picks)];
+            words(&values, answers);
+            0
+        }
+    }
+}
+
+// Close's answer.
+pub(crate) fn closing(a: Closing, answers: &mut [u32]) -> u32
+    ensures number { λ r. ⌜ r ≡ closeNumber a ⌝ }
+    ensures answers_after { λ r. ⌜ now (answers .exit) ≡ answersAfter (bitsOf (fractionsOf a)) (now (answers .entry)) ⌝ }
+{
+    match a {
+        Closing::Refused(n) => n,
+        Closing::Fractions(largest, contacted, pair) => {
+            let values = [
+                numbers::class::to_bits32(largest),
+                numbers::class::to_bits32(contacted),
+                numbers::class::to_bits32(pair),
+            ];
+            words(&values, answers);
+            0
+        }
+    }
+}
+
+// Dispersion's number and its score, +0 with a refusal.
+fn dispersed_number(a: Dispersed) -> u32
+    ensures { λ r. ⌜ r ≡ dispersedNumber a ⌝ }
+{
+    match a {
+        Dispersed::Score(s) => 0,
+        Dispersed::Refused(n) => n,
+    }
+}
+
+fn dispersed_score(a: Dispersed) -> f32
+    ensures { λ r. ⌜ r ≡ dispersedScore a ⌝ }
+{
+    match a {
+        Dispersed::Score(s) => s,
+        Dispersed::Refused(n) => 0.0,
+    }
+}
+
+// Dispersion's answer. Dispersion promises a number and a score, so the number decides.
+pub(crate) fn dispersed(a: Dispersed, answers: &mut [u32]) -> u32
+    ensures number { λ r. ⌜ r ≡ dispersedNumber a ⌝ }
+    ensures answers_after { λ r. ⌜ now (answers .exit) ≡ answersAfter (bitsOf (unlessRefused (dispersedNumber a) (dispersedScore a ∷ []) [])) (now (answers .entry)) ⌝ }
+{
+    let n = dispersed_number(a);
+    if n == 0 {
+        let values = [numbers::class::to_bits32(dispersed_score(a))];
+        words(&values, answers);
+    }
+    n
+}
+
+// Tree's answer.
+pub(crate) fn tree(a: TreeAnswer, answers: &mut [u32]) -> u32
+    requires { ⌜ ((k : ℕ) → getD (treeAnswered a) k 0 < 2 ^ 32) ⌝ }
+    ensures number { λ r. ⌜ r ≡ treeNumber a ⌝ }
+    ensures answers_after { λ r. ⌜ now (answers .exit) ≡ answersAfter (treeAnswered a) (now (answers .entry)) ⌝ }
+{
+    match a {
+        TreeAnswer::Refused(n) => n,
+        TreeAnswer::Nodes(nodes, depth) => {
+            let values = [word(nodes), word(depth)];
+            words(&values, answers);
+            0
+        }
+    }
+}
+
+// Report's answer.
+pub(crate) fn report(a: Reported, answers: &mut [u32]) -> u32
+    requires { ⌜ ((k : ℕ) → getD (reportAnswered a) k 0 < 2 ^ 32) ⌝ }
+    ensures number { λ r. ⌜ r ≡ reportNumber a ⌝ }
+    ensures answers_after { λ r. ⌜ now (answers .exit) ≡ answersAfter (reportAnswered a) (now (answers .entry)) ⌝ }
+{
+    match a {
+        Reported::Refused(n) => n,
+        Reported::Leaves(nodes, depth, reported, dry) => {
+            let values = [word(nodes), word(depth), word(reported), word(dry)];
+            words(&values, answers);
+            0
+        }
+    }
+}
