@@ -1,5 +1,5 @@
 -- The words that are written into an answers table: the values, cut to its length. Assumes nothing.
-use mathlib.Core.Path.{_≡_, refl, _∙_}
+use mathlib.Core.Path.{_≡_, refl, ap₂, _∙_}
 use mathlib.Core.List.{List, [], _∷_}
 use Prim.Native.Nat.{ℕ, zero, suc, _+_, _≤_, _<_, min}
 use native.Mathlib.Numerals.{add-one}
@@ -10,6 +10,10 @@ use Rattle.cell.proofs.Tables.{Filling, filling-first, filling-next, filling-la
 use lib.Ieee.{Float}
 use Rattle.cell.specs.Tables.{over, unlessRefused}
 use Rattle.mixing_c.specs.Interface.{answersAfter}
+
+-- values that are equal one by one
+pub next-word : {a b : ℕ} {xs ys : List ℕ} → a ≡ b → xs ≡ ys → a ∷ xs ≡ b ∷ ys
+next-word e f = ap₂ _∷_ e f
 
 -- a number n and a score s that are a refusal r and its value d give that value, or none
 pub score-given : (n r : ℕ) (s d z : Float) → n ≡ r → s ≡ unlessRefused r d z → unlessRefused n (s ∷ []) [] ≡ unlessRefused r (d ∷ []) []

@@ -4,7 +4,7 @@ use mathlib.Core.Path.{refl, ap, _∙_}
 use mathlib.Core.List.{List}
 use Prim.Native.Nat.{ℕ}
 use Rattle.mixing_c.specs.Interface.{bitsOf, answersAfter}
-use Rattle.mixing_c.proofs.Writing.{none-written}
+use Rattle.mixing_c.proofs.Writing.{none-written, next-word}
 use Rattle.mixing_c.proofs.give.closing.Statement.{statement}
 use Rattle.mixing_c.proofs.give.closing.Tie as tie
 
@@ -16,7 +16,8 @@ returns-2 : tie.Need-returns-2
 unfolding bitsOf
 returns-2 c =
     let st = c .before .before .before .before .before .before .before .before .before .before .before .before in
-    rw (c .before .before .before .before .before .before .before .before .before .a2 .given .1) (refl, c .before .before .words .ensures ∙ ap (λ (l : List ℕ). answersAfter l (st .args .answers .now)) (cc))
+    let last = c .before .before .before .before .before in
+    rw (c .before .before .before .before .before .before .before .before .before .a2 .given .1) (refl, c .before .before .words .ensures ∙ ap (λ (l : List ℕ). answersAfter l (st .args .answers .now)) (next-word (last .before .before .to-bits32 .ensures) (next-word (last .before .to-bits322 .ensures) (next-word (last .to-bits323 .ensures) refl))))
 
 pub closing-spec : {M : Type 1} → statement M
 closing-spec =

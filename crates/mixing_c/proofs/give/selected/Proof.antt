@@ -4,7 +4,7 @@ use mathlib.Core.Path.{refl, ap, _∙_}
 use mathlib.Core.List.{List}
 use Prim.Native.Nat.{ℕ}
 use Rattle.mixing_c.specs.Interface.{answersAfter}
-use Rattle.mixing_c.proofs.Writing.{none-written}
+use Rattle.mixing_c.proofs.Writing.{none-written, next-word}
 use Rattle.mixing_c.proofs.give.selected.Statement.{statement}
 use Rattle.mixing_c.proofs.give.selected.Tie as tie
 
@@ -20,7 +20,8 @@ returns c = rw (c .before .a .given .1) (refl, none-written _)
 returns-2 : tie.Need-returns-2
 returns-2 c =
     let st = c .before .before .before .before .before .before .before .before .before .before .before in
-    rw (c .before .before .before .before .before .before .before .before .a2 .given .1) (refl, c .before .before .words .ensures ∙ ap (λ (l : List ℕ). answersAfter l (st .args .answers .now)) (cc))
+    let last = c .before .before .before .before .before in
+    rw (c .before .before .before .before .before .before .before .before .a2 .given .1) (refl, c .before .before .words .ensures ∙ ap (λ (l : List ℕ). answersAfter l (st .args .answers .now)) (next-word (last .before .word .ensures) (next-word (last .word2 .ensures) refl)))
 
 pub selected-spec : {M : Type 1} → statement M
 selected-spec =
