@@ -125,7 +125,7 @@ uint32_t baithrum_row(float lx, float ly, float lz, float hx, float hy, float hz
  * Refusals: 7 (table shorter than two words or than 2 + 3n), 9 (as in Row, and n over 4,096), 12. */
 uint32_t baithrum_close(const uint32_t *table, size_t table_len, uint32_t *answers, size_t answers_len);
 
-/* Centers: the center of each copy, wrapped into the cell.
+/* Centers: the center of each copy by its picks, wrapped (in the cell but for rounding).
  * Writes centers: x y z for each copy in order, 3n floats.
  * Refusals: 1, 2, 3, 4, 15, 8, 7 (centers shorter than 3n). */
 uint32_t baithrum_centers(float lx, float ly, float lz, float hx, float hy, float hz, const float *solutes, size_t solutes_len,

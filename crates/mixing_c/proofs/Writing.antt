@@ -8,20 +8,26 @@ use lib.ListN.{length, getD, take, drop, set, length-take, length-drop}
 use lib.Seq.{drop-cons, getD-take, take-nil}
 use Rattle.cell.proofs.Tables.{Filling, filling-first, filling-next, filling-last, length-none, placed-zero}
 use lib.Ieee.{Float}
+use Rattle.cell.specs.declared.Cell.{Cell}
 use Rattle.cell.specs.Tables.{over, unlessRefused}
-use Rattle.mixing_c.specs.Interface.{answersAfter}
+use Rattle.dispersion.specs.Dispersion.{dispersionOf, dispersionRefusal}
+use Rattle.mixing_c.specs.Interface.{answersAfter, dispersionValues}
 
 -- values that are equal one by one
 pub next-word : {a b : ℕ} {xs ys : List ℕ} → a ≡ b → xs ≡ ys → a ∷ xs ≡ b ∷ ys
 next-word e f = ap₂ _∷_ e f
 
--- a number n and a score s that are a refusal r and its value d give that value, or none
-pub score-given : (n r : ℕ) (s d z : Float) → n ≡ r → s ≡ unlessRefused r d z → unlessRefused n (s ∷ []) [] ≡ unlessRefused r (d ∷ []) []
-score-given n r s d z e f = rw (e, f) (twice r)
+-- Dispersion's number and score give its value, or none
+pub score-given :
+    (c : Cell) (solutes : List Float) (starts picks : List ℕ) (n : ℕ) (s z : Float) → n ≡ dispersionRefusal c solutes starts picks →
+    s ≡ unlessRefused (dispersionRefusal c solutes starts picks) (dispersionOf c solutes starts picks) z →
+    unlessRefused n (s ∷ []) [] ≡ dispersionValues c solutes starts picks
+unfolding dispersionValues
+score-given c solutes starts picks n s z e f = rw (e, f) (twice (dispersionRefusal c solutes starts picks) (dispersionOf c solutes starts picks))
   where
-    twice : (k : ℕ) → unlessRefused k (unlessRefused k d z ∷ []) [] ≡ unlessRefused k (d ∷ []) []
-    twice zero = refl
-    twice (suc k) = refl
+    twice : (k : ℕ) (d : Float) → unlessRefused k (unlessRefused k d z ∷ []) [] ≡ unlessRefused k (d ∷ []) []
+    twice zero d = refl
+    twice (suc k) d = refl
 
 -- no values change nothing
 pub none-written : (answers : List ℕ) → answers ≡ answersAfter [] answers

@@ -1,9 +1,10 @@
 -- `dispersed` meets its contract: where the number is 0 the score stands in the table as bits, and otherwise nothing is written.
 -- Assumes nothing.
 use borrow.Author.Needs.{needs}
-use mathlib.Core.Path.{refl, sym, ap, _∙_}
+use mathlib.Core.Path.{_≡_, refl, ap, _∙_}
 use mathlib.Core.List.{List, [], _∷_}
 use Prim.Native.Nat.{ℕ}
+use native.Mathlib.Omega.{arith}
 use lib.Ieee.{binary32, toBits}
 use Rattle.dispersion.specs.Dispersion.{dispersedNumber, dispersedScore}
 use Rattle.tree.proofs.Outcomes.{at-refusal}
@@ -17,7 +18,8 @@ unfolding bitsOf
 returns c =
     let st = c .before .before .before .before .before .before .before .before .before .before in
     let n = c .before .before .before .before .before .before .before .before .dispersed-number in
-    (n .ensures, rw (sym (n .ensures) ∙ c .before .before .before .before .before .before .before .if1 .taken) (c .before .before .words .ensures ∙ ap (λ (l : List ℕ). answersAfter l (st .args .answers .now)) (next-word (c .before .before .before .before .before .to-bits32 .ensures ∙ ap (toBits binary32) (c .before .before .before .before .before .before .dispersed-score .ensures)) refl)))
+    let none : dispersedNumber (st .args .a) ≡ 0 = omega (arith, n .ensures) in
+    (n .ensures, rw none (c .before .before .words .ensures ∙ ap (λ (l : List ℕ). answersAfter l (st .args .answers .now)) (next-word (c .before .before .before .before .before .to-bits32 .ensures ∙ ap (toBits binary32) (c .before .before .before .before .before .before .dispersed-score .ensures)) refl)))
 
 returns-2 : tie.Need-returns-2
 unfolding bitsOf
