@@ -5,3 +5,5 @@ pub mod Outcomes
 pub mod Cores
 -- what the tests establish for the cores, and what these leave
 pub mod Tested
+-- the leaf table holds every leaf that an answer counts
+pub mod Leaves

@@ -24,7 +24,7 @@ module _ (f : Frame) (t : Tables) where
   rest : List Refusal
   rest = cond (empty f) [] (tableRefusals f t)
 
-  number-limit : (firstRefusal (limited f) ≡ 0 → ⊥) → frameRefusal f t ≡ firstRefusal (limited f)
+  pub number-limit : (firstRefusal (limited f) ≡ 0 → ⊥) → frameRefusal f t ≡ firstRefusal (limited f)
   unfolding frameRefusal limited rest
   number-limit n = append-hit (limited f) rest (limit-numbered (f .cell) (f .solutes) (f .waters) (f .indices)) n
 
@@ -55,7 +55,7 @@ module _ (f : Frame) (t : Tables) where
 
   -- ---- nothing of these holds: r is 0
   module _ (within : firstRefusal (limited f) ≡ 0) where
-    blank-is : frameBlank f ≡ empty f
+    pub blank-is : frameBlank f ≡ empty f
     unfolding frameBlank
     blank-is = rw (eq-eqb (firstRefusal (limited f)) 0 within)
 
@@ -64,7 +64,7 @@ module _ (f : Frame) (t : Tables) where
     outcome-blank e = rw (blank-is, e) (refl, refl)
 
     module _ (some : empty f ≡ false) where
-      chain : frameRefusal f t
+      pub chain : frameRefusal f t
           ≡ cond (ltb 4096 (length (kept f))) 5
           (cond (ltb 65536 (length (pickNumbers f))) 6
           (cond (short f t) 7 (treeRefusal (reportRoom (t .records) (t .boxes) (t .leaves)) (treeIn f))))

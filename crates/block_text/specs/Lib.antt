@@ -1,0 +1,2 @@
+-- What program `frame` prints.
+pub mod Printed
