@@ -24,7 +24,15 @@ float-requires-6 c κs = search needs
 
 returns : tie.Need-returns
 unfolding cellOf
-returns c = cc
+returns c =
+    rw (
+      c .float6 .ensures,
+      c .before .float5 .ensures,
+      c .before .before .float4 .ensures,
+      c .before .before .before .float3 .ensures,
+      c .before .before .before .before .float2 .ensures,
+      c .before .before .before .before .before .float .ensures,
+    )
 
 pub read-cell-spec : {M : Type 1} → statement M
 read-cell-spec =

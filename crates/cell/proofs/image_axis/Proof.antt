@@ -10,7 +10,7 @@ round32-requires c κs = search needs
 
 returns : tie.Need-returns
 unfolding imageAxis
-returns c = cc
+returns c = rw (c .round32 .ensures)
 
 pub image-axis-spec : {M : Type 1} → statement M
 image-axis-spec = tie.close (tie.spec round32-requires returns)

@@ -16,7 +16,7 @@ is-finite32-requires-3 c κs = search needs
 
 returns : tie.Need-returns
 unfolding finitePoint
-returns c = cc
+returns c = rw (c .is-finite323 .ensures, c .before .is-finite322 .ensures, c .before .before .is-finite32 .ensures)
 
 pub is-finite-spec : {M : Type 1} → statement M
 is-finite-spec =

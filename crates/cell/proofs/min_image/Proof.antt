@@ -16,7 +16,7 @@ image-axis-requires-3 c κs = search needs
 
 returns : tie.Need-returns
 unfolding minImage
-returns c = cc
+returns c = rw (c .image-axis3 .ensures, c .before .image-axis2 .ensures, c .before .before .image-axis .ensures)
 
 pub min-image-spec : {M : Type 1} → statement M
 min-image-spec =

@@ -10,7 +10,7 @@ is-finite32-requires c κs = search needs
 
 returns : tie.Need-returns
 unfolding validAxis
-returns c = cc
+returns c = rw (c .is-finite32 .ensures)
 
 pub valid-axis-spec : {M : Type 1} → statement M
 valid-axis-spec = tie.close (tie.spec is-finite32-requires returns)

@@ -10,7 +10,7 @@ floor32-requires c κs = search needs
 
 returns : tie.Need-returns
 unfolding wrapAxis
-returns c = cc
+returns c = rw (c .floor32 .ensures)
 
 pub wrap-axis-spec : {M : Type 1} → statement M
 wrap-axis-spec = tie.close (tie.spec floor32-requires returns)

@@ -16,7 +16,7 @@ add-requires : tie.Need-add-requires
 add-requires c κs = search needs
 
 returns : tie.Need-returns
-returns c = cc
+returns c = rw (c .add .ensures, c .before .min-image .ensures, c .before .before .separation .ensures, c .before .before .before .extent .ensures)
 
 pub beside-spec : {M : Type 1} → statement M
 beside-spec =

@@ -35,7 +35,7 @@ wrap-requires c κs = search needs
 
 loop-holds : tie.Need-loop-holds Inv-loop μ-loop
 unfolding anchorOf
-loop-holds c = (search needs, refl, cc (c .wrap .ensures, c .before .point .ensures))
+loop-holds c = (search needs, refl, rw (c .wrap .ensures, c .before .point .ensures))
 
 mul-point : tie.Need-mul-point Inv-loop μ-loop
 mul-point c = search needs
@@ -85,7 +85,7 @@ returns c =
     let at = c .before .before .before in
     let st = at .before .before .before .before .before .before in
     let all = sym (sum-none (st .args .cell) (st .args .xs .now) (at .before .wrap .result) (at .loop .sum) (st .args .picks .now) (at .loop .j) (c .before .before .loop-test .left)) ∙ at .loop .inv .1 in
-    cc
+    c .wrap2 .ensures ∙ rw (c .before .divide .ensures, all, at .loop .inv .2)
 
 pub center-spec : {M : Type 1} → statement M
 center-spec =

@@ -12,7 +12,7 @@ sqrt32-requires c κs = search needs
 
 returns : tie.Need-returns
 unfolding expectedOf
-returns c = cc
+returns c = rw (c .sqrt32 .ensures, c .before .magnitude-squared .ensures)
 
 pub expected-spec : {M : Type 1} → statement M
 expected-spec = tie.close (tie.spec magnitude-squared-requires sqrt32-requires returns)

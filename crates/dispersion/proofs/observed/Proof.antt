@@ -33,7 +33,7 @@ narrow-requires c κs = search needs
 
 returns : tie.Need-returns
 unfolding observedOf
-returns c = cc
+returns c = rw (c .narrow .ensures, c .before .sqrt64 .ensures, c .before .before .before .pair-sum .ensures)
 
 pub observed-spec : {M : Type 1} → statement M
 observed-spec =

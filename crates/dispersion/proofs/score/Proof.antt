@@ -16,7 +16,7 @@ returns-2 : tie.Need-returns-2
 returns-2 c =
     let some = c .before .before in
     let st = some .before .before in
-    score-small (st .args .e) (st .args .centers .now) (st .args .n) (some .if1 .left) (cc (c .before .expected .ensures, c .if2 .taken))
+    score-small (st .args .e) (st .args .centers .now) (st .args .n) (some .if1 .left) (rw (← c .before .expected .ensures) (c .if2 .taken))
 
 observed-requires : tie.Need-observed-requires
 observed-requires c κs = search needs
@@ -28,8 +28,8 @@ returns-3 : tie.Need-returns-3
 returns-3 c =
     let even = c .before .before .before in
     let st = even .before .before .before in
-    let ratio = score-ratio (st .args .e) (st .args .centers .now) (st .args .n) (even .before .if1 .left) (cc (even .expected .ensures, c .before .before .if2 .left)) in
-    cc (c .clamp .ensures, c .before .observed .ensures, even .expected .ensures, ratio)
+    let ratio = score-ratio (st .args .e) (st .args .centers .now) (st .args .n) (even .before .if1 .left) (rw (← even .expected .ensures) (c .before .before .if2 .left)) in
+    rw (c .clamp .ensures, c .before .observed .ensures, even .expected .ensures, ratio)
 
 pub score-spec : {M : Type 1} → statement M
 score-spec =

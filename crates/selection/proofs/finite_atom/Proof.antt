@@ -13,7 +13,7 @@ is-finite-requires c κs = search needs
 
 returns : tie.Need-returns
 unfolding finiteAtom
-returns c = cc
+returns c = rw (c .is-finite .ensures, c .before .point .ensures)
 
 pub finite-atom-spec : {M : Type 1} → statement M
 finite-atom-spec = tie.close (tie.spec point-requires is-finite-requires returns)

@@ -10,7 +10,7 @@ is-finite32-requires c κs = search needs
 
 returns : tie.Need-returns
 unfolding over
-returns c = cc
+returns c = rw (c .is-finite32 .ensures)
 
 pub over-spec : {M : Type 1} → statement M
 over-spec = tie.close (tie.spec is-finite32-requires returns)

@@ -11,4 +11,4 @@ corner-spec =
     (λ c κs. search needs)
     (λ c κs. search needs)
     (λ c κs. search needs)
-    (λ c. cc))
+    (λ c. rw (c .pick3 .ensures, c .before .pick2 .ensures, c .before .before .pick .ensures)))

@@ -24,7 +24,7 @@ abbrev μ-loop : tie.MeasureT-loop
 place : (c : tie.After-octant Inv-loop μ-loop)
     → octantAt (c .before .before .before .before .before .before .before .args .points .now) (c .before .before .before .before .before .before .before .args .center)
     (getD (c .before .before .before .loop .order) (c .before .before .before .loop .i) 0) ≡ c .octant .result
-place c = cc
+place c = sym (c .octant .ensures)
 
 loop-again : tie.Need-loop-again Inv-loop μ-loop
 loop-again c =
