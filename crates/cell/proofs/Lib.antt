@@ -11,5 +11,5 @@ pub mod Finite
 pub mod FiniteFrame
 -- document 01's checked frames on this layer, as the definitions compute them
 pub mod Examples
--- a table with a list written into it, an entry at a time
+-- a table with a list written into it, an entry at a time; what a refusal leaves
 pub mod Tables

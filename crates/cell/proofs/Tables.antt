@@ -1,14 +1,15 @@
--- A table with a list written into it, at an entry or from its start: the entries are written one at a time or a list at a time.
+-- A table with a list written into it, at an entry or from its start: the entries are written one at a time or a list at a time; and
+-- what a refusal leaves.
 -- Assumes nothing.
 use mathlib.Core.Path.{_≡_, refl, sym, ap, _∙_}
 use mathlib.Core.List.{List, [], _∷_, _++_, append-assoc}
-use Prim.Native.Nat.{ℕ, _+_, _≤_, _<_}
+use Prim.Native.Nat.{ℕ, zero, suc, _+_, _≤_, _<_}
 use native.Mathlib.Nat.{add-zero, zero-add, add-assoc}
 use native.Mathlib.Numerals.{add-one}
 use native.Mathlib.Omega.{arith}
 use lib.ListN.{length, take, drop, set, length-set, length-append, length-drop, take-append-drop}
 use lib.Seq.{length-take-le, set-split, take-at, drop-at, drop-drop}
-use Rattle.cell.specs.Tables.{placed, over}
+use Rattle.cell.specs.Tables.{placed, over, unlessRefused}
 
 module _ {A : Type 0} where
   pub placed-none : (k : ℕ) (t : List A) → placed k [] t ≡ t
@@ -83,3 +84,11 @@ module _ {A : Type 0} {at : ℕ} {all t₀ : List A} where
 
   pub filling-last : {end : ℕ} {t : List A} → Filling at all t₀ end [] t → t ≡ placed at all t₀
   filling-last {end} {t} z = sym (placed-none end t) ∙ z .table
+
+-- ---- a value or a table after a call, by the number that the call answers
+pub at-refusal : {A : Type 0} (r : ℕ) (x y : A) → (r ≡ 0 → ⊥) → unlessRefused r x y ≡ y
+at-refusal zero x y n = absurd (n refl)
+at-refusal (suc r) x y n = refl
+
+pub at-none : {A : Type 0} (r : ℕ) (x y : A) → r ≡ 0 → unlessRefused r x y ≡ x
+at-none r x y e = rw e

@@ -9,12 +9,12 @@ use lib.Dec.{eqb, ltb}
 use lib.Ieee.{Float, ofBits, binary32}
 use borrow.Author.Tests.{lt-ltb, le-ltb}
 use Rattle.cell.specs.Refusals.{firstRefusal}
+use Rattle.cell.proofs.Tables.{at-refusal, at-none}
 use Rattle.union_find.specs.Range.{allBelow, count}
 use Rattle.union_find.specs.Parents.{soundParents, largestSet}
 use Rattle.union_find.proofs.Sizes.{largest-le, largest-pos}
 use Rattle.clusters.specs.Table.{copies, contacts, parents, degree, mark, words, pairs, soundTable}
 use Rattle.clusters.specs.Answers.{closeRefusals, closeRefusal, closeFractions, ratio, threeFractions, tableFractions}
-use Rattle.clusters.proofs.Refusals.{at-refusal, at-none}
 use Rattle.clusters.proofs.Parts.{parents-length}
 use Rattle.clusters.proofs.Steps.{lent}
 

@@ -27,7 +27,7 @@ pub mod OrderRule
 pub mod Scans
 -- a run worked out: ten calls on four copies
 pub mod Examples
--- what a refusal leaves; Open's refusals; Row's refusals of a table
+-- Open's refusals; Row's refusals of a table
 pub mod Refusals
 -- Row's refusals, test by test
 pub mod RowRefusals

@@ -13,13 +13,14 @@ use borrow.Author.Tests.{not-true, eqb-false}
 use Rattle.cell.specs.Refusals.{Refusal, refuse, firstRefusal}
 use Rattle.cell.specs.Tables.{unlessRefused}
 use Rattle.cell.proofs.FirstRefusal.{first-append}
+use Rattle.cell.proofs.Tables.{at-refusal, at-none}
 use Rattle.selection.specs.Input.{inputRefusals}
 use Rattle.selection.proofs.InputRefusals.{input-numbered}
 use Rattle.union_find.proofs.Ranges.{and-left, and-right}
 use Rattle.clusters.specs.Table.{words, opened, rowTable}
 use Rattle.clusters.specs.Answers.{tableRefusals, openRefusal, openLeaves, rowRefusal, rowLeaves, closeFractions}
 use Rattle.clusters.specs.Order.{Input, copiesOf, touchOf, Call, row, close, reopen, answer, leaves, after, accepts, accepted, neverReopened, ruled, Ruled, OrderRule}
-use Rattle.clusters.proofs.Refusals.{at-refusal, at-none, open-room, open-same}
+use Rattle.clusters.proofs.Refusals.{open-room, open-same}
 use Rattle.clusters.proofs.Rows.{holds-same}
 use Rattle.clusters.proofs.Held.{row-answer, close-answer, close-gives}
 use Rattle.clusters.proofs.Calls.{State, same-rows, state-first, state-answer, answer-length, full, largest-contact}

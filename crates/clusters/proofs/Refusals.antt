@@ -1,25 +1,17 @@
--- What Open and Row answer and leave, test by test, and what a refusal leaves of any call. Assumes nothing.
+-- What Open and Row answer and leave, test by test. Assumes nothing.
 use mathlib.Core.Path.{_≡_, refl, sym, _∙_}
 use mathlib.Core.Bool.{cond, not}
 use mathlib.Core.List.{List}
-use Prim.Native.Nat.{ℕ, zero, suc, _≤_, _<_}
+use Prim.Native.Nat.{ℕ, _≤_, _<_}
 use native.Mathlib.Omega.{arith}
 use native.Mathlib.Decide.{decLe}
 use lib.ListN.{length}
 use lib.Dec.{eqb, ltb, leb}
 use borrow.Author.Tests.{lt-ltb, le-ltb}
 use Rattle.cell.specs.Refusals.{firstRefusal}
-use Rattle.cell.specs.Tables.{unlessRefused}
+use Rattle.cell.proofs.Tables.{at-refusal, at-none}
 use Rattle.clusters.specs.Table.{mark, words, opened, soundTable}
 use Rattle.clusters.specs.Answers.{openRefusals, openRefusal, openLeaves, tableRefusals}
-
--- ---- any call
-pub at-refusal : {A : Type 0} (r : ℕ) (x y : A) → (r ≡ 0 → ⊥) → unlessRefused r x y ≡ y
-at-refusal zero x y n = absurd (n refl)
-at-refusal (suc r) x y n = refl
-
-pub at-none : {A : Type 0} (r : ℕ) (x y : A) → r ≡ 0 → unlessRefused r x y ≡ x
-at-none r x y e = rw e
 
 -- ---- Open
 module _ (n : ℕ) (t : List ℕ) where

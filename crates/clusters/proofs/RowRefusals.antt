@@ -11,6 +11,7 @@ use borrow.Author.Tests.{eq-eqb, ne-eqb, lt-ltb, le-ltb, le-leb, lt-leb}
 use Rattle.cell.specs.declared.Cell.{Cell}
 use Rattle.cell.specs.Refusals.{Refusal, firstRefusal}
 use Rattle.cell.proofs.FirstRefusal.{append-hit, append-skip}
+use Rattle.cell.proofs.Tables.{at-refusal, at-none}
 use Rattle.selection.specs.Sound.{copiesIn, soundLists}
 use Rattle.selection.specs.Input.{inputRefusals}
 use Rattle.selection.proofs.SoundLists.{Lists, sound-lists}
@@ -18,7 +19,7 @@ use Rattle.selection.proofs.InputRefusals.{input-numbered, input-accepted}
 use Rattle.touch.specs.Touch.{copiesTouch}
 use Rattle.clusters.specs.Table.{mark, words, rowTable, soundTable}
 use Rattle.clusters.specs.Answers.{tableRefusals, rowRefusal, rowLeaves}
-use Rattle.clusters.proofs.Refusals.{at-refusal, at-none, table-chain}
+use Rattle.clusters.proofs.Refusals.{table-chain}
 
 -- input that nothing refuses has sound pick lists
 pub input-sound : (c : Cell) (xs : List Float) (starts picks : List ℕ) (r : ℕ) → r ≡ firstRefusal (inputRefusals c xs [] starts picks) → r ≡ 0

@@ -1,8 +1,8 @@
 -- What each `return` of Centers and Dispersion answers. Assumes nothing.
-use mathlib.Core.Path.{_≡_, refl, sym, _∙_}
+use mathlib.Core.Path.{_≡_, sym, _∙_}
 use mathlib.Core.Bool.{true}
 use mathlib.Core.List.{List, [], _∷_}
-use Prim.Native.Nat.{ℕ, zero, suc, _*_, _≤_, _<_}
+use Prim.Native.Nat.{ℕ, _*_, _≤_, _<_}
 use native.Mathlib.Omega.{arith}
 use lib.Dec.{ltb}
 use lib.ListN.{length}
@@ -12,19 +12,12 @@ use Rattle.cell.specs.declared.Cell.{Cell}
 use Rattle.cell.specs.Refusals.{Refusal, refuse, firstRefusal}
 use Rattle.cell.specs.Tables.{over, unlessRefused}
 use Rattle.cell.proofs.FirstRefusal.{first-hit, first-skip, append-hit, append-skip}
+use Rattle.cell.proofs.Tables.{at-refusal, at-none}
 use Rattle.selection.specs.Sound.{copiesIn, soundLists}
 use Rattle.selection.specs.Input.{inputRefusals}
 use Rattle.selection.proofs.InputRefusals.{input-numbered, input-accepted}
 use Rattle.dispersion.specs.Centers.{centersOf, centersRefusal, centersLeaves}
 use Rattle.dispersion.specs.Dispersion.{dispersionOf, dispersionRefusal}
-
--- ---- a value or a table after a call, by its number
-at-refusal : {A : Type 0} (r : ℕ) (x y : A) → (r ≡ 0 → ⊥) → unlessRefused r x y ≡ y
-at-refusal zero x y n = absurd (n refl)
-at-refusal (suc r) x y n = refl
-
-at-none : {A : Type 0} (r : ℕ) (x y : A) → r ≡ 0 → unlessRefused r x y ≡ x
-at-none r x y e = rw e
 
 -- a call's own answer, tested
 answered-none : (r : ℕ) (rs : List Refusal) → r ≡ firstRefusal rs → r ≡ 0 → firstRefusal rs ≡ 0

@@ -11,7 +11,8 @@ use Rattle.cell.specs.Cell.{pointAt}
 use Rattle.cell.specs.Tables.{placed, over}
 use Rattle.selection.specs.Sound.{copiesIn, pickList}
 use Rattle.dispersion.specs.Centers.{centerOf, centersFrom, centersOf}
-use Rattle.dispersion.proofs.Placing.{placed-none, placed-zero, placed-three}
+use Rattle.cell.proofs.Tables.{placed-none, placed-zero}
+use Rattle.dispersion.proofs.Placing.{placed-three}
 
 -- the points after the first
 point-next : (x y z : Float) (l : List Float) (j : ℕ) → pointAt (x ∷ y ∷ z ∷ l) (suc j) ≡ pointAt l j

@@ -12,7 +12,7 @@ use Rattle.octree.specs.declared.Built as Built
 use Rattle.octree.specs.declared.Built.{Built}
 use Rattle.octree.specs.Tree.{Subtrees, Numbered, none, whereSome, subtree, treeOf, firstNumbers, pointNumbers, deepest, recordsOf, boxesOf, treeRefusal, builtNumber, builtValues, treeValues, centerOrderLeft, waterOrderLeft, recordsLeft, boxesLeft}
 use Rattle.octree.specs.Inner.{Filled}
-use Rattle.octree.proofs.Placing.{placed-zero}
+use Rattle.cell.proofs.Tables.{placed-zero}
 use Rattle.octree.proofs.Filling.{numbers-length}
 use Rattle.octree.proofs.Growing.{no-points, some-points}
 use Rattle.octree.proofs.Counting.{nodes-few}

@@ -16,7 +16,8 @@ use Rattle.octree.specs.Split.{octantPoints}
 use Rattle.octree.specs.Tree.{Subtrees, Builder, none, join, whereSome, maxDepth, subtree, deepest, recordsOf, boxesOf}
 use Rattle.octree.specs.Inner.{otherPoints, Filled}
 use Rattle.octree.proofs.Gathering.{Taken, stretch, stretchPut, taken-count, taken-list, child-order, child-length}
-use Rattle.octree.proofs.Placing.{placed-none, placed-next}
+use Rattle.cell.proofs.Tables.{placed-none}
+use Rattle.octree.proofs.Placing.{placed-next}
 use Rattle.octree.proofs.NodeTables.{records-append, boxes-append, records-length, boxes-length, deepest-append}
 use Rattle.octree.proofs.Broods.{brood}
 
@@ -138,8 +139,8 @@ begin S h =
       roots-is = refl;
       count = omega arith;
       deep-is = omega arith;
-      table = sym (placed-none (S .rec₀) ((S .at + 1) * 8));
-      corners = sym (placed-none (S .box₀) ((S .at + 1) * 6));
+      table = sym (placed-none ((S .at + 1) * 8) (S .rec₀));
+      corners = sym (placed-none ((S .at + 1) * 6) (S .box₀));
       within = h;
     }
 

@@ -1,8 +1,8 @@
 -- What a call leaves: order lists of which a part was lent come back whole; at a refusal other than 13 every table is as it was; and the
 -- tree over written points is the frame's. Assumes nothing.
-use mathlib.Core.Path.{_≡_, refl, sym, ap, _∙_}
+use mathlib.Core.Path.{_≡_, sym, ap, _∙_}
 use mathlib.Core.List.{List, [], _∷_, _++_}
-use Prim.Native.Nat.{ℕ, zero, suc, _*_, _/_}
+use Prim.Native.Nat.{ℕ, _*_, _/_}
 use native.Mathlib.Omega.{arith}
 use borrow.Author.Tests.{ne-eqb}
 use lib.ListN.{length, take, drop, replicate}
@@ -10,6 +10,7 @@ use lib.Seq.{take-at}
 use lib.Ieee.{Float, binary32, ofBits}
 use Rattle.cell.specs.declared.Cell.{Cell}
 use Rattle.cell.specs.Tables.{over, unlessRefused}
+use Rattle.cell.proofs.Tables.{at-refusal}
 use Rattle.selection.specs.Sound.{copiesIn}
 use Rattle.dispersion.specs.Centers.{centersOf}
 use Rattle.octree.specs.declared.Built.{Built}
@@ -19,11 +20,6 @@ use Rattle.tree.specs.Points.{treeCenters, treeWaters, finiteWaters}
 use Rattle.tree.specs.Tree.{frameTree, treeOver, treeOn, byOutcome, treeCallValues, centerOrderAfter, waterOrderAfter, recordsAfter, boxesAfter}
 use Rattle.tree.proofs.Wrapping.{wrap-length}
 use Rattle.tree.proofs.WaterList.{waters-length}
-
--- at a refusal the second of two outcomes stands
-pub at-refusal : {A : Type 0} (r : ℕ) (x y : A) → (r ≡ 0 → ⊥) → unlessRefused r x y ≡ y
-at-refusal zero x y n = absurd (n refl)
-at-refusal (suc r) x y n = refl
 
 -- the values of an answer of number r, and the tables it leaves: the order lists co and wo of n centers and m waters, and the node tables
 abbrev pub Leaves : ℕ → List ℕ → Subtrees → ℕ → ℕ → List ℕ → List ℕ → List ℕ → List ℕ → List ℕ → List ℕ → List Float → List Float → Type 0

@@ -140,12 +140,12 @@ build-tree-spec =
     reset-requires
     (λ c. c .before .before .before .before .before .before .before .before .reset .kept .0 ∙ same-c (c .before .before .before .before .before .before .before .before .before .before .before .before .before .before .before))
     (λ c. c .before .before .before .before .before .before .before .before .reset .kept .1 .0 ∙ same-w (c .before .before .before .before .before .before .before .before .before .before .before .before .before .before .before))
-    (λ c. search needs)
-    (λ c. search needs)
+    (λ c. c .before .before .before .before .before .before .before .before .reset .kept .1 .1 .0 ∙ built (c .before .before .before .before .before .before .before .before .before .before .before .before .before .before .before) .build .kept .1 .1 .1 .1 .1 .1 .1 .1 .0)
+    (λ c. c .before .before .before .before .before .before .before .before .reset .kept .1 .1 .1 .0 ∙ built (c .before .before .before .before .before .before .before .before .before .before .before .before .before .before .before) .build .kept .1 .1 .1 .1 .1 .1 .1 .1 .1 .0)
     returns-2
     (λ c. search needs)
-    (λ c. search needs)
-    (λ c. search needs)
-    (λ c. search needs)
-    (λ c. search needs)
+    (λ c. same-c (c .before .before))
+    (λ c. same-w (c .before .before))
+    (λ c. built (c .before .before) .build .kept .1 .1 .1 .1 .1 .1 .1 .1 .0)
+    (λ c. built (c .before .before) .build .kept .1 .1 .1 .1 .1 .1 .1 .1 .1 .0)
     returns-3)

@@ -3,7 +3,7 @@ use mathlib.Core.Path.{sym, _∙_}
 use mathlib.Core.List.{[]}
 use borrow.Author.Needs.{needs}
 use Rattle.selection.specs.Sound.{copiesIn}
-use Rattle.tree.proofs.Outcomes.{at-refusal}
+use Rattle.cell.proofs.Tables.{at-refusal}
 use Rattle.tree.specs.Points.{finiteWaters}
 use Rattle.tree.specs.Tree.{frameTree}
 use Rattle.tree.proofs.TreeRefusals.{tested, call-tested, call-room}
