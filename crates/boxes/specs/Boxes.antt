@@ -1,0 +1,69 @@
+-- Boxes around the picks of each copy, the box table, and when a gate keeps two boxes apart. Lengths are in angstrom.
+-- Definitions only. Assumes nothing.
+use mathlib.Core.Path.{_≡_}
+use mathlib.Core.Bool.{Bool, _||_}
+use mathlib.Core.List.{List, [], _∷_}
+use Prim.Native.Nat.{ℕ, _+_, _*_, _<_}
+use lib.ListN.{getD}
+use lib.Ieee.{Float, nan, binary32, sub}
+use Rattle.cell.specs.declared.Vec3.{Vec3}
+use Rattle.selection.specs.Sound.{copiesIn, pickList}
+use Rattle.gates.specs.declared.Gates.{Gates}
+use Rattle.gates.specs.Gates.{larger, smaller, farOf}
+use Rattle.boxes.specs.declared.Span.{Span}
+
+-- ---- the ends of some picks on an axis: 0, 1, 2 are x, y, z
+abbrev pub coordinate : List Float → ℕ → ℕ → Float
+coordinate xs axis p = getD xs (p * 3 + axis) nan
+
+-- the least and the greatest of v and the picks' coordinates
+unfoldable pub leastFrom : List Float → ℕ → Float → List ℕ → Float
+leastFrom xs axis v [] = v
+leastFrom xs axis v (p ∷ ps) = leastFrom xs axis (smaller v (coordinate xs axis p)) ps
+
+unfoldable pub greatestFrom : List Float → ℕ → Float → List ℕ → Float
+greatestFrom xs axis v [] = v
+greatestFrom xs axis v (p ∷ ps) = greatestFrom xs axis (larger v (coordinate xs axis p)) ps
+
+-- of a list that is not empty
+unfoldable pub leastOf : List Float → ℕ → List ℕ → Float
+unfolding leastFrom
+leastOf xs axis ps = leastFrom xs axis (coordinate xs axis (getD ps 0 0)) ps
+
+unfoldable pub greatestOf : List Float → ℕ → List ℕ → Float
+unfolding greatestFrom
+greatestOf xs axis ps = greatestFrom xs axis (coordinate xs axis (getD ps 0 0)) ps
+
+-- ---- boxes
+-- the box of copy i in a table of n copies
+unfoldable pub spanAt : List Float → ℕ → ℕ → Span
+spanAt t n i =
+    record {
+      low = record { x = getD t i nan; y = getD t (2 * n + i) nan; z = getD t (4 * n + i) nan };
+      high = record { x = getD t (n + i) nan; y = getD t (3 * n + i) nan; z = getD t (5 * n + i) nan };
+    }
+
+-- the least and the greatest coordinates of the picks
+unfoldable pub spanOf : List Float → List ℕ → Span
+unfolding leastOf greatestOf
+spanOf xs ps =
+    record {
+      low = record { x = leastOf xs 0 ps; y = leastOf xs 1 ps; z = leastOf xs 2 ps };
+      high = record { x = greatestOf xs 0 ps; y = greatestOf xs 1 ps; z = greatestOf xs 2 ps };
+    }
+
+-- the box table of pick lists: the least x of each copy, then the greatest, and the same for y and z
+abbrev pub Boxes : List Float → List ℕ → List ℕ → List Float → Type 0
+Boxes xs starts picks t = (i : ℕ) → i < copiesIn starts → spanAt t (copiesIn starts) i ≡ spanOf xs (pickList starts picks i)
+
+-- the box of one point
+abbrev pub pointSpan : Vec3 → Span
+pointSpan p = record { low = p; high = p }
+
+-- on some axis a gate rejects every separation from a point of b to a point of c
+unfoldable pub apartOf : Gates → Span → Span → Bool
+unfolding farOf
+apartOf g b c =
+    farOf (g .x) (sub binary32 (c .low .x) (b .high .x)) (sub binary32 (c .high .x) (b .low .x))
+    || (farOf (g .y) (sub binary32 (c .low .y) (b .high .y)) (sub binary32 (c .high .y) (b .low .y))
+    || farOf (g .z) (sub binary32 (c .low .z) (b .high .z)) (sub binary32 (c .high .z) (b .low .z)))

@@ -1,0 +1,2 @@
+-- Boxes around the picks of each copy.
+pub mod Boxes

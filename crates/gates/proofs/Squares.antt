@@ -1,0 +1,107 @@
+-- A square above the cutoff's decides against the whole distance: a sum of squares is not below any of them. Only that each operation
+-- keeps the order is used, so that nothing is lost to rounding. Assumes nothing.
+use mathlib.Core.Path.{_≡_, refl}
+use mathlib.Core.Bool.{Bool, true, false}
+use Prim.Native.Nat.{ℕ, _+_, _*_, _^_}
+use lib.Dec.{T, lit≤}
+use lib.Ieee.{Float, binary32, ofBits, add, sub, mul, lt, le}
+use lib.Ieee.Fits.{mul-fits, add-fits}
+use lib.Ieee.Scale.{finite}
+use Rattle.numbers.proofs.Bounds.{Within, exact-pow, mul-within, add-within, plain}
+use Rattle.numbers.proofs.Quotients.{within-finite}
+use Rattle.numbers.proofs.Signed.{lt-not-le, le-trans-finite}
+use Rattle.numbers.proofs.Monotone.{add-ge-first, add-ge-second, add-plain, square-plain, square-right, square-left}
+use Rattle.cell.specs.declared.Vec3.{Vec3}
+use Rattle.cell.specs.Cell.{squared}
+use Rattle.cell.proofs.Finite.{Around, squared-within}
+use Rattle.touch.specs.Touch.{cutoff2}
+use Rattle.gates.specs.Gates.{zero}
+use Rattle.gates.proofs.Order.{plus-of, minus-of}
+
+abbrev sq : Float → Float
+sq x = mul binary32 x x
+
+cutoff-finite : T (finite cutoff2)
+unfolding cutoff2 ofBits mul
+cutoff-finite = tt
+
+sq-within : (x : Float) → Within (2 ^ 24) x → Within (2 ^ 48) (sq x)
+sq-within x w = mul-within binary32 x x (2 ^ 24) (2 ^ 24) (exact-pow binary32 48 (lit≤ tt)) w w
+
+sq-finite : (x : Float) → Within (2 ^ 24) x → T (finite (sq x))
+sq-finite x w = within-finite (2 ^ 48) (sq x) (sq-within x w)
+
+-- ---- x is right of an a above zero, or left of a b below it, whose square is above the cutoff's
+over : (a x : Float) → T (finite a) → T (finite x) → T (lt cutoff2 a) → T (le a x) → T (le x cutoff2) → ⊥
+over a x p q h k l = lt-not-le a cutoff2 p cutoff-finite h (le-trans-finite a x cutoff2 p q cutoff-finite k l)
+
+pub right-of : (a x : Float) → Within (2 ^ 24) a → Within (2 ^ 24) x → T (lt zero a) → T (lt cutoff2 (sq a)) → T (le a x) → T (le (sq x) cutoff2) → ⊥
+right-of a x wa wx p s h =
+    over (sq a) (sq x) (sq-finite a wa) (sq-finite x wx) s (square-right binary32 a x (plus-of a (within-finite (2 ^ 24) a wa) p) (within-finite (2 ^ 24) x wx) h)
+
+pub left-of : (b x : Float) → Within (2 ^ 24) b → Within (2 ^ 24) x → T (lt b zero) → T (lt cutoff2 (sq b)) → T (le x b) → T (le (sq x) cutoff2) → ⊥
+left-of b x wb wx p s h =
+    over (sq b) (sq x) (sq-finite b wb) (sq-finite x wx) s (square-left binary32 b x (minus-of b (within-finite (2 ^ 24) b wb) p) (within-finite (2 ^ 24) x wx) h)
+
+-- ---- one square of three
+refused : (b : Bool) → (T b → ⊥) → b ≡ false
+refused true h = absurd (h tt)
+refused false h = refl
+
+module _ (d : Vec3) (w : Around 24 d) where
+  abbrev X : Float
+  X = sq (d .x)
+
+  abbrev Y : Float
+  Y = sq (d .y)
+
+  abbrev Z : Float
+  Z = sq (d .z)
+
+  abbrev XY : Float
+  XY = add binary32 X Y
+
+  fx : T (finite X)
+  fx = sq-finite (d .x) (w .on-x)
+
+  fy : T (finite Y)
+  fy = sq-finite (d .y) (w .on-y)
+
+  fz : T (finite Z)
+  fz = sq-finite (d .z) (w .on-z)
+
+  fxy : T (finite XY)
+  fxy = within-finite (2 ^ 49) XY (add-within binary32 X Y (2 ^ 48) (2 ^ 48) (exact-pow binary32 49 (lit≤ tt)) (sq-within (d .x) (w .on-x)) (sq-within (d .y) (w .on-y)))
+
+  fxyz : T (finite (squared d))
+  fxyz = within-finite (2 ^ 50) (squared d) (squared-within 24 d (lit≤ tt) w)
+
+  not-minus : (x : Float) → Within (2 ^ 24) x → T (plain (sq x))
+  not-minus x v = square-plain binary32 x (within-finite (2 ^ 24) x v)
+
+  xy-le : T (le XY (squared d))
+  unfolding squared
+  xy-le = add-ge-first binary32 XY Z (add-fits binary32 X Y) fxy fz (not-minus (d .z) (w .on-z)) fxyz
+
+  x-le : T (le X XY)
+  x-le = add-ge-first binary32 X Y (mul-fits binary32 (d .x) (d .x)) fx fy (not-minus (d .y) (w .on-y)) fxy
+
+  y-le : T (le Y XY)
+  y-le = add-ge-second binary32 X Y (mul-fits binary32 (d .y) (d .y)) fx fy (not-minus (d .x) (w .on-x)) fxy
+
+  z-le : T (le Z (squared d))
+  unfolding squared
+  z-le = add-ge-second binary32 XY Z (mul-fits binary32 (d .z) (d .z)) fxy fz (add-plain binary32 X Y fx fy (not-minus (d .x) (w .on-x)) (not-minus (d .y) (w .on-y))) fxyz
+
+  -- a summand over the cutoff's square
+  far-by : (s : Float) → T (finite s) → T (le s (squared d)) → (T (le s cutoff2) → ⊥) → le (squared d) cutoff2 ≡ false
+  far-by s f l h = refused (le (squared d) cutoff2) (λ k. h (le-trans-finite s (squared d) cutoff2 f fxyz cutoff-finite l k))
+
+  pub far-x : (T (le X cutoff2) → ⊥) → le (squared d) cutoff2 ≡ false
+  far-x = far-by X fx (le-trans-finite X XY (squared d) fx fxy fxyz x-le xy-le)
+
+  pub far-y : (T (le Y cutoff2) → ⊥) → le (squared d) cutoff2 ≡ false
+  far-y = far-by Y fy (le-trans-finite Y XY (squared d) fy fxy fxyz y-le xy-le)
+
+  pub far-z : (T (le Z cutoff2) → ⊥) → le (squared d) cutoff2 ≡ false
+  far-z = far-by Z fz z-le
