@@ -150,3 +150,33 @@ pub begins-pick : (c : Cell) (xs : List Float) (p : ℕ) (ps : List ℕ) (g : Ga
     → (j ≤ length ps) × (anyIn (near (extentOf c) xs p) (drop j ps) ≡ anyIn (near (extentOf c) xs p) ps)
 begins-pick c xs p ps g b s j h some fp f eg eb es ej =
     begins (near (extentOf c) xs p) ps (apartOf g b s) j ej (λ on. apart-pick c xs p ps h some fp f (rw (eg, eb, es) at on))
+
+-- two boxes b and s of picks, and a test t that the gates pass
+pub apart-spans : (c : Cell) (xs : List Float) (ps qs : List ℕ) (g : Gates) (b s : Span) → tested c xs ≡ true → 0 < length ps → 0 < length qs → Finite xs ps → Finite xs qs
+    → g ≡ gatesOf (extentOf c) → b ≡ spanOf xs ps → s ≡ spanOf xs qs → apartOf g b s ≡ true → anyPair (near (extentOf c) xs) ps qs ≡ false
+apart-spans c xs ps qs g b s h some any f k eg eb es t = apart-lists c xs ps qs h some any f k (rw (eg, eb, es) at t)
+
+or-right : (a b : Bool) → b ≡ true → (a || b) ≡ true
+or-right true b h = refl
+or-right false b h = h
+
+-- one axis of the box of qs is enough, with ends lo and hi
+module _ (g : Gates) (s : Span) (xs : List Float) (qs : List ℕ) (t : Bool) (lo hi : Float) (on : t ≡ true) where
+  pub by-x : lo ≡ leastOf xs 0 qs → hi ≡ greatestOf xs 0 qs → t ≡ farOf (g .x) (sub binary32 lo (s .high .x)) (sub binary32 hi (s .low .x)) → apartOf g s (spanOf xs qs) ≡ true
+  unfolding apartOf spanOf
+  by-x el eh et = rw (rw (el, eh) at (sym et ∙ on))
+
+  pub by-y : lo ≡ leastOf xs 1 qs → hi ≡ greatestOf xs 1 qs → t ≡ farOf (g .y) (sub binary32 lo (s .high .y)) (sub binary32 hi (s .low .y)) → apartOf g s (spanOf xs qs) ≡ true
+  unfolding apartOf spanOf
+  by-y el eh et = or-right (farOf (g .x) (sub binary32 (leastOf xs 0 qs) (s .high .x)) (sub binary32 (greatestOf xs 0 qs) (s .low .x))) _ (rw (rw (el, eh) at (sym et ∙ on)))
+
+  pub by-z : lo ≡ leastOf xs 2 qs → hi ≡ greatestOf xs 2 qs → t ≡ farOf (g .z) (sub binary32 lo (s .high .z)) (sub binary32 hi (s .low .z)) → apartOf g s (spanOf xs qs) ≡ true
+  unfolding apartOf spanOf
+  by-z el eh et =
+      or-right (farOf (g .x) (sub binary32 (leastOf xs 0 qs) (s .high .x)) (sub binary32 (greatestOf xs 0 qs) (s .low .x))) _
+      (or-right (farOf (g .y) (sub binary32 (leastOf xs 1 qs) (s .high .y)) (sub binary32 (greatestOf xs 1 qs) (s .low .y))) _ (rw (el, eh) at (sym et ∙ on)))
+
+-- a flag that is not 0
+pub flagged : (t : Bool) (m : ℕ) → m ≡ cond t 1 0 → (m ≡ 0 → ⊥) → t ≡ true
+flagged true m e h = refl
+flagged false m e h = absurd (h e)

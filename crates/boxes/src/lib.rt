@@ -211,3 +211,108 @@ pub fn copies_touch(
     let b = selection::sound::copy_picks(starts, picks, j);
     lists_touch(cell, g, xs, a, b, span_at(boxes, n, j))
 }
+
+// The same, for a copy j whose flag `mark_apart` has set against copy i.
+pub fn marked_touch(
+    cell: Cell,
+    g: Gates,
+    xs: &[f32],
+    starts: &[u32],
+    picks: &[u32],
+    boxes: &[f32],
+    flags: &[u32],
+    i: usize,
+    j: usize,
+) -> bool
+    requires { ⌜ soundLists (now xs) (now starts) (now picks) ≡ true ⌝ }
+    requires { ⌜ (g ≡ gatesOf (extentOf cell)) × (tested cell (now xs) ≡ true) ⌝ }
+    requires { ⌜ Boxes (now xs) (now starts) (now picks) (now boxes) ⌝ }
+    requires { ⌜ (i < copiesIn (now starts)) × (j < copiesIn (now starts)) × (6 * copiesIn (now starts) ≤ length (now boxes)) ⌝ }
+    requires { ⌜ (j < length (now flags)) × (getD (now flags) j 0 ≡ cond (apartOf g (spanAt (now boxes) (copiesIn (now starts)) i) (spanAt (now boxes) (copiesIn (now starts)) j)) 1 0) ⌝ }
+    ensures { λ r. ⌜ r ≡ copiesTouch cell (now (xs .entry)) (now (starts .entry)) (now (picks .entry)) i j ⌝ }
+{
+    if flags[j] != 0 {
+        return false;
+    }
+    copies_touch(cell, g, xs, starts, picks, boxes, i, j)
+}
+
+// ---- with no table: the box of one copy, and the ends of the other, an axis at a time
+
+// The box of some picks.
+pub fn span_of(xs: &[f32], a: &[u32]) -> Span
+    requires { ⌜ 0 < length (now a) ⌝ }
+    requires { ⌜ ((k : ℕ) → k < length (now a) → getD (now a) k 0 * 3 + 2 < length (now xs)) ⌝ }
+    ensures { λ r. ⌜ r ≡ spanOf (now (xs .entry)) (now (a .entry)) ⌝ }
+{
+    let x = ends_of(xs, a, 0);
+    let y = ends_of(xs, a, 1);
+    let z = ends_of(xs, a, 2);
+    Span {
+        low: Vec3 {
+            x: x.lo,
+            y: y.lo,
+            z: z.lo,
+        },
+        high: Vec3 {
+            x: x.hi,
+            y: y.hi,
+            z: z.hi,
+        },
+    }
+}
+
+// Whether the picks a, whose box is s, and the picks b touch.
+fn spans_touch(cell: Cell, g: Gates, xs: &[f32], a: &[u32], b: &[u32], s: Span) -> bool
+    requires { ⌜ (g ≡ gatesOf (extentOf cell)) × (tested cell (now xs) ≡ true) × (s ≡ spanOf (now xs) (now a)) × (0 < length (now a)) × (0 < length (now b)) × (length (now b) ≤ 65536) ⌝ }
+    requires { ⌜ ((k : ℕ) → k < length (now a) → (getD (now a) k 0 * 3 + 2 < length (now xs)) × (finitePoint (pointAt (now xs) (getD (now a) k 0)) ≡ true)) ⌝ }
+    requires { ⌜ ((k : ℕ) → k < length (now b) → (getD (now b) k 0 * 3 + 2 < length (now xs)) × (finitePoint (pointAt (now xs) (getD (now b) k 0)) ≡ true)) ⌝ }
+    ensures { λ r. ⌜ r ≡ anyPair (nearOf (extentOf cell) (now (xs .entry))) (now (a .entry)) (now (b .entry)) ⌝ }
+{
+    let x = ends_of(xs, b, 0);
+    if gates::far(g.x, x.lo - s.high.x, x.hi - s.low.x) {
+        return false;
+    }
+    let y = ends_of(xs, b, 1);
+    if gates::far(g.y, y.lo - s.high.y, y.hi - s.low.y) {
+        return false;
+    }
+    let z = ends_of(xs, b, 2);
+    if gates::far(g.z, z.lo - s.high.z, z.hi - s.low.z) {
+        return false;
+    }
+    let c = Span {
+        low: Vec3 {
+            x: x.lo,
+            y: y.lo,
+            z: z.lo,
+        },
+        high: Vec3 {
+            x: x.hi,
+            y: y.hi,
+            z: z.hi,
+        },
+    };
+    lists_touch(cell, g, xs, a, b, c)
+}
+
+// Whether copies i and j of sound pick lists touch, given the cell's gates and the box of copy i.
+pub fn row_touch(
+    cell: Cell,
+    g: Gates,
+    xs: &[f32],
+    starts: &[u32],
+    picks: &[u32],
+    s: Span,
+    i: usize,
+    j: usize,
+) -> bool
+    requires { ⌜ soundLists (now xs) (now starts) (now picks) ≡ true ⌝ }
+    requires { ⌜ (g ≡ gatesOf (extentOf cell)) × (tested cell (now xs) ≡ true) × (s ≡ spanOf (now xs) (pickList (now starts) (now picks) i)) ⌝ }
+    requires { ⌜ (i < copiesIn (now starts)) × (j < copiesIn (now starts)) ⌝ }
+    ensures { λ r. ⌜ r ≡ copiesTouch cell (now (xs .entry)) (now (starts .entry)) (now (picks .entry)) i j ⌝ }
+{
+    let a = selection::sound::copy_picks(starts, picks, i);
+    let b = selection::sound::copy_picks(starts, picks, j);
+    spans_touch(cell, g, xs, a, b, s)
+}

@@ -1,0 +1,23 @@
+-- `boxes::span_of` meets its contract: the ends on each axis. Assumes nothing.
+use mathlib.Core.Path.{_≡_}
+use native.Mathlib.Omega.{arith}
+use Rattle.boxes.specs.Boxes.{spanOf}
+use borrow.Author.Needs.{needs}
+use Rattle.boxes.proofs.span_of.Statement.{statement}
+use Rattle.boxes.proofs.span_of.Tie as tie
+
+ends-of-requires : tie.Need-ends-of-requires
+ends-of-requires c κs = let st = c .before .before in ((st .pre .0, omega arith), st .pre .1)
+
+ends-of-requires-2 : tie.Need-ends-of-requires-2
+ends-of-requires-2 c κs = let st = c .before .before .before in ((st .pre .0, omega arith), st .pre .1)
+
+ends-of-requires-3 : tie.Need-ends-of-requires-3
+ends-of-requires-3 c κs = let st = c .before .before .before .before in ((st .pre .0, omega arith), st .pre .1)
+
+returns : tie.Need-returns
+unfolding spanOf
+returns c = rw (c .before .before .ends-of .ensures .0, c .before .before .ends-of .ensures .1, c .before .ends-of2 .ensures .0, c .before .ends-of2 .ensures .1, c .ends-of3 .ensures .0, c .ends-of3 .ensures .1)
+
+pub span-of-spec : {M : Type 1} → statement M
+span-of-spec = tie.close (tie.spec ends-of-requires ends-of-requires-2 ends-of-requires-3 returns)
