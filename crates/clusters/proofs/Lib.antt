@@ -39,5 +39,7 @@ pub mod Checks
 pub mod Fills
 -- the steps of `add_contact`
 pub mod Steps
+-- what input has that nothing refuses
+pub mod Accepted
 -- the loop of a row
 pub mod Passes

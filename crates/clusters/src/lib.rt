@@ -4,13 +4,16 @@
 ghost use mathlib.Core.Path.{_≡_};
 ghost use mathlib.Core.Bool.{true};
 ghost use mathlib.Core.List.{[], _∷_};
-ghost use Prim.Native.Nat.{_+_, _^_, _<_, _≤_};
+ghost use Prim.Native.Nat.{_+_, _*_, _^_, _<_, _≤_};
 ghost use lib.Dec.{ltb, eqb};
 ghost use lib.ListN.{length, getD, set};
+ghost use Rattle.cell.specs.Cell.{extentOf};
 ghost use Rattle.cell.specs.Refusals.{numberOf, firstRefusal};
 ghost use Rattle.selection.specs.Sound.{soundLists, copiesIn};
 ghost use Rattle.selection.specs.Input.{inputRefusals};
 ghost use Rattle.touch.specs.Touch.{copiesTouch};
+ghost use Rattle.gates.specs.Gates.{gatesOf};
+ghost use Rattle.boxes.specs.Boxes.{Boxes};
 ghost use Rattle.union_find.specs.Range.{allBelow, count};
 ghost use Rattle.union_find.specs.Parents.{soundParents};
 ghost use Rattle.clusters.specs.Table.{parents, degree, contacts, mark, words, pairs, contact, rowTable, opened, soundWords, soundTable};
@@ -19,6 +22,7 @@ ghost use Rattle.clusters.specs.Answers.{closeNumber, fractionsOf, openR
 use cell::Answer;
 use cell::Cell;
 use cell::limits::MAX_COPIES;
+use gates::Gates;
 
 // What Close answers: the largest, contacted and pair fractions.
 pub enum Closing {
@@ -148,7 +152,8 @@ fn add_contact(table: &mut [u32], n: usize, i: usize, j: usize)
     raise(table, 1);
 }
 
-// Row i of sound pick lists on a sound table: what Row's tests establish is asked, and nothing is tested again.
+// Row i of input that nothing refuses on a sound table: what Row's tests establish is asked, and nothing is tested again. The box of copy i and the
+// cell's gates settle most copies (crate `boxes`).
 pub fn scan_row(
     cell: Cell,
     solutes: &[f32],
@@ -157,14 +162,16 @@ pub fn scan_row(
     table: &mut [u32],
     i: usize,
 )
-    requires { ⌜ soundLists (now solutes) (now starts) (now picks) ≡ true ⌝ }
+    requires { ⌜ firstRefusal (inputRefusals cell (now solutes) [] (now starts) (now picks)) ≡ 0 ⌝ }
     requires { ⌜ (words (copiesIn (now starts)) ≤ length (now table)) × (soundTable (copiesIn (now starts)) (now table) ≡ true) × (i < copiesIn (now starts)) ⌝ }
     ensures { λ _. ⌜ now (table .exit) ≡ rowTable (copiesTouch cell (now (solutes .entry)) (now (starts .entry)) (now (picks .entry))) (copiesIn (now (starts .entry))) i (now (table .entry)) ⌝ }
 {
     let n = starts.len() - 1;
+    let g = gates::gates_of(cell);
+    let s = boxes::span_of(solutes, selection::sound::copy_picks(starts, picks, i));
     let mut j = i + 1;
     while j < n {
-        if touch::copies_touch(cell, solutes, starts, picks, i, j) {
+        if boxes::row_touch(cell, g, solutes, starts, picks, s, i, j) {
             add_contact(table, n, i, j);
         }
         j += 1;
@@ -205,19 +212,83 @@ pub fn row(
     Answer::Accepted
 }
 
-// Opens the table and scans every row in rising order, for input that nothing refuses: the core of the whole frame.
-pub fn scan_all(cell: Cell, solutes: &[f32], starts: &[u32], picks: &[u32], table: &mut [u32])
+// ---- every row
+
+// Row i as `scan_row`, given the cell's gates and the box table; `flags` is scratch.
+fn scan_boxed(
+    cell: Cell,
+    g: Gates,
+    solutes: &[f32],
+    starts: &[u32],
+    picks: &[u32],
+    room: &[f32],
+    flags: &mut [u32],
+    table: &mut [u32],
+    i: usize,
+)
+    requires { ⌜ firstRefusal (inputRefusals cell (now solutes) [] (now starts) (now picks)) ≡ 0 ⌝ }
+    requires { ⌜ (words (copiesIn (now starts)) ≤ length (now table)) × (soundTable (copiesIn (now starts)) (now table) ≡ true) × (i < copiesIn (now starts)) ⌝ }
+    requires { ⌜ (g ≡ gatesOf (extentOf cell)) × (6 * copiesIn (now starts) ≤ length (now room)) × (copiesIn (now starts) ≤ length (now flags)) ⌝ }
+    requires { ⌜ Boxes (now solutes) (now starts) (now picks) (now room) ⌝ }
+    ensures { λ _. ⌜ now (table .exit) ≡ rowTable (copiesTouch cell (now (solutes .entry)) (now (starts .entry)) (now (picks .entry))) (copiesIn (now (starts .entry))) i (now (table .entry)) ⌝ }
+{
+    let n = starts.len() - 1;
+    boxes::mark_apart(g, room, flags, n, i);
+    let mut j = i + 1;
+    while j < n {
+        if boxes::marked_touch(cell, g, solutes, starts, picks, room, flags, i, j) {
+            add_contact(table, n, i, j);
+        }
+        j += 1;
+    }
+    table[2 + n + n + i] = 1;
+}
+
+// Opens the table and scans every row in rising order, with the box table.
+fn scan_rows(
+    cell: Cell,
+    g: Gates,
+    solutes: &[f32],
+    starts: &[u32],
+    picks: &[u32],
+    room: &[f32],
+    flags: &mut [u32],
+    table: &mut [u32],
+)
     requires { ⌜ firstRefusal (inputRefusals cell (now solutes) [] (now starts) (now picks)) ≡ 0 ⌝ }
     requires { ⌜ words (copiesIn (now starts)) ≤ length (now table) ⌝ }
+    requires { ⌜ (g ≡ gatesOf (extentOf cell)) × (6 * copiesIn (now starts) ≤ length (now room)) × (copiesIn (now starts) ≤ length (now flags)) ⌝ }
+    requires { ⌜ Boxes (now solutes) (now starts) (now picks) (now room) ⌝ }
     ensures { λ _. ⌜ now (table .exit) ≡ scanned cell (now (solutes .entry)) (now (starts .entry)) (now (picks .entry)) (now (table .entry)) ⌝ }
 {
     let n = starts.len() - 1;
     open_table(table, n);
     let mut i = 0;
     while i < n {
-        scan_row(cell, solutes, starts, picks, table, i);
+        scan_boxed(cell, g, solutes, starts, picks, room, flags, table, i);
         i += 1;
     }
+}
+
+// Opens the table and scans every row in rising order, for input that nothing refuses: the core of the whole frame. The box table is made once.
+pub fn scan_all(cell: Cell, solutes: &[f32], starts: &[u32], picks: &[u32], table: &mut [u32])
+    requires { ⌜ firstRefusal (inputRefusals cell (now solutes) [] (now starts) (now picks)) ≡ 0 ⌝ }
+    requires { ⌜ words (copiesIn (now starts)) ≤ length (now table) ⌝ }
+    ensures { λ _. ⌜ now (table .exit) ≡ scanned cell (now (solutes .entry)) (now (starts .entry)) (now (picks .entry)) (now (table .entry)) ⌝ }
+{
+    let mut room = [0f32; 24576];
+    let mut flags = [0u32; 4096];
+    boxes::fill_boxes(solutes, starts, picks, &mut room);
+    scan_rows(
+        cell,
+        gates::gates_of(cell),
+        solutes,
+        starts,
+        picks,
+        &room,
+        &mut flags,
+        table,
+    );
 }
 
 // ---- Close

@@ -16,8 +16,10 @@ use Rattle.numbers.proofs.Monotone.{sub-mono, mul-mono-left}
 use Rattle.cell.specs.declared.Cell.{Cell}
 use Rattle.cell.specs.declared.Vec3.{Vec3}
 use Rattle.cell.specs.Cell.{epsilon, imageAxis, validAxis, valid, extentOf, pointAt, finitePoint}
-use Rattle.cell.specs.Limits.{boundOver, anyOver, maxCoordinate}
+use Rattle.cell.specs.Limits.{boundOver, anyOver, maxCoordinate, frameRefusals}
+use Rattle.cell.specs.Refusals.{firstRefusal}
 use Rattle.cell.proofs.Finite.{Above, Side, Around, image-axis-within}
+use Rattle.cell.proofs.FrameRefusals.{frame-none}
 use Rattle.cell.proofs.FiniteFrame.{limited-cell, atom-around}
 use Rattle.gates.specs.Gates.{turnsOf, tested}
 
@@ -87,6 +89,10 @@ pub record Tested (c : Cell) (xs : List Float) : Type 0 where
 pub tested-of : (c : Cell) (xs : List Float) → boundOver c ≡ false → valid c ≡ true → anyOver maxCoordinate xs ≡ false → tested c xs ≡ true
 unfolding tested
 tested-of c xs b v w = rw (b, v, w)
+
+-- a frame that none of 1, 2, 3, 4 and 15 refuses
+pub tested-frame : (c : Cell) (xs waters : List Float) → firstRefusal (frameRefusals c xs waters) ≡ 0 → tested c xs ≡ true
+tested-frame c xs waters h = let a = frame-none c xs waters h in tested-of c xs (a .bounds-within) (a .cell-valid) (a .solutes-within)
 
 pub tested-is : (c : Cell) (xs : List Float) → tested c xs ≡ true → Tested c xs
 unfolding tested

@@ -4,7 +4,7 @@
 use mathlib.Core.Path.{sym, _∙_}
 use native.Mathlib.Omega.{arith}
 use borrow.Author.Tests.{not-false}
-use Rattle.clusters.proofs.RowRefusals.{input-sound, input-lists, row-input, row-short, row-unsound, row-beyond, row-marked, row-taken}
+use Rattle.clusters.proofs.RowRefusals.{input-lists, row-input, row-short, row-unsound, row-beyond, row-marked, row-taken}
 use borrow.Author.Needs.{needs}
 use Rattle.clusters.proofs.row.Statement.{statement}
 use Rattle.clusters.proofs.row.Tie as tie
@@ -91,7 +91,7 @@ scan-row-requires c κs =
     let e3 = e4 .before in
     let e2 = e3 .before .before .before in
     let e1 = e2 .before in (
-      input-sound _ _ _ _ _ (e1 .before .input-refusal .ensures) (e1 .if1 .left),
+      sym (e1 .before .input-refusal .ensures) ∙ e1 .if1 .left,
       (e2 .if2 .left, sym (e3 .before .table-sound .ensures) ∙ not-false _ (e3 .if3 .left), e4 .if4 .left),
     )
 

@@ -1,77 +1,46 @@
--- `clusters::scan_all` meets its contract. Invariant, before row i: the rows from i on give, over the table, what every row gives over the
--- opened one (`Scan`); measure n - i. Assumes nothing.
-use Prim.Native.Nat.{_-_}
+-- `clusters::scan_all` meets its contract: the box table is filled once, and every row scanned with it. Assumes nothing.
 use native.Mathlib.Omega.{arith}
-use native.Mathlib.Numerals.{add-one}
-use Rattle.selection.proofs.SoundLists.{sound-lists}
-use Rattle.clusters.specs.Order.{touchOf}
-use Rattle.clusters.specs.Scan.{given, scanned}
-use Rattle.clusters.proofs.Held.{sound-table}
-use Rattle.clusters.proofs.Scans.{Scan, lists, few, scan-first, scan-next, scan-done}
+use Rattle.clusters.proofs.Accepted.{accepted-sound, accepted-lists}
 use borrow.Author.Needs.{needs}
 use Rattle.clusters.proofs.scan_all.Statement.{statement}
 use Rattle.clusters.proofs.scan_all.Tie as tie
 
-abbrev Inv-loop : tie.InvT-loop
-Inv-loop cell solutes starts picks table₀ n i₀ table i = Scan (given cell solutes starts picks) table₀ table i
+slice-aggregate-fill-boxes : tie.Need-slice-aggregate-fill-boxes
+slice-aggregate-fill-boxes c = search needs
 
-abbrev μ-loop : tie.MeasureT-loop
-μ-loop cell solutes starts picks table₀ n i₀ table i = n - i
+fill-boxes-requires : tie.Need-fill-boxes-requires
+fill-boxes-requires c κs = let st = c .before .before .before .before .before in (accepted-sound _ _ _ _ (st .pre .0), omega (arith, accepted-lists _ _ _ _ (st .pre .0) .few))
 
-sub-n : tie.Need-sub-n Inv-loop μ-loop
-sub-n c = let st = c .before .before .before .before in omega (arith, sound-lists _ _ _ (lists (given (st .args .cell) (st .args .solutes .now) (st .args .starts .now) (st .args .picks .now)) (st .pre .0)) .number)
+gates-of-requires : tie.Need-gates-of-requires
+gates-of-requires c κs = search needs
 
-open-table-requires : tie.Need-open-table-requires Inv-loop μ-loop
-open-table-requires c κs = let st = c .before .before .before .before .before in (few (given (st .args .cell) (st .args .solutes .now) (st .args .starts .now) (st .args .picks .now)) (st .pre .0), st .pre .1)
+slice-aggregate-scan-rows : tie.Need-slice-aggregate-scan-rows
+slice-aggregate-scan-rows c = search needs
 
-loop-holds : tie.Need-loop-holds Inv-loop μ-loop
-loop-holds c =
-    let st = c .before .before .before .before .before .before .before .before in
-    let f = given (st .args .cell) (st .args .solutes .now) (st .args .starts .now) (st .args .picks .now) in
-    rw (c .before .before .open-table .ensures) (scan-first f (st .pre .0) (st .args .table .now) (st .pre .1))
+slice-aggregate-scan-rows-2 : tie.Need-slice-aggregate-scan-rows-2
+slice-aggregate-scan-rows-2 c = search needs
 
-scan-row-requires : tie.Need-scan-row-requires Inv-loop μ-loop
-scan-row-requires c κs =
+scan-rows-requires : tie.Need-scan-rows-requires
+scan-rows-requires c κs =
     let st = c .before .before .before .before .before .before .before .before .before .before .before in
-    let f = given (st .args .cell) (st .args .solutes .now) (st .args .starts .now) (st .args .picks .now) in
-    let z = c .before .before .loop .inv in
-    (lists f (st .pre .0), (z .state .long, sound-table (z .state), c .before .loop-test .taken))
+    let n = accepted-lists _ _ _ _ (st .pre .0) .few in
+    (st .pre .0, (st .pre .1, ((c .before .before .before .gates-of .ensures, omega (arith, n), omega (arith, n)), c .before .before .before .before .before .fill-boxes .ensures .0)))
 
-add-i : tie.Need-add-i Inv-loop μ-loop
-add-i c = search needs
+same-length : tie.Need-same-length
+same-length c = search needs
 
-loop-less : tie.Need-loop-less Inv-loop μ-loop
-loop-less c = search needs
-
-loop-again : tie.Need-loop-again Inv-loop μ-loop
-unfolding touchOf
-loop-again c =
-    let st = c .before .before .before .before .before .before .before .before .before .before .before .before .before .before in
-    let f = given (st .args .cell) (st .args .solutes .now) (st .args .starts .now) (st .args .picks .now) in
-    rw (c .before .before .scan-row .ensures, add-one) (scan-next f (st .pre .0) (c .before .before .before .before .loop-test .taken) (c .before .before .before .before .before .loop .inv))
-
-same-length : tie.Need-same-length Inv-loop μ-loop
-same-length c = search (needs, c .before .loop .inv .same)
-
-returns : tie.Need-returns Inv-loop μ-loop
-unfolding scanned
-returns c =
-    let st = c .before .before .before .before .before .before .before .before .before .before in
-    let f = given (st .args .cell) (st .args .solutes .now) (st .args .starts .now) (st .args .picks .now) in
-    scan-done f (st .pre .0) (st .args .table .now) (st .pre .1) (c .before .before .before .before .open-table .ensures) (c .loop-test .left) (c .before .loop .inv)
+returns : tie.Need-returns
+returns c = search needs
 
 pub scan-all-spec : {M : Type 1} → statement M
 scan-all-spec =
     tie.close
     (tie.spec
-    Inv-loop
-    μ-loop
-    sub-n
-    open-table-requires
-    loop-holds
-    scan-row-requires
-    add-i
-    loop-less
-    loop-again
+    slice-aggregate-fill-boxes
+    fill-boxes-requires
+    gates-of-requires
+    slice-aggregate-scan-rows
+    slice-aggregate-scan-rows-2
+    scan-rows-requires
     same-length
     returns)

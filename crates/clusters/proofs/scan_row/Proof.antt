@@ -1,12 +1,14 @@
 -- `clusters::scan_row` meets its contract. Invariant, before copy j is tested: what is left of the pass over the table gives what the
 -- whole pass gives over the table at entry, and the table is ready for one more contact (`Run`); measure n - j. Assumes nothing.
-use mathlib.Core.Path.{sym, _∙_}
+use mathlib.Core.Path.{sym, ap, _∙_}
 use mathlib.Core.Logic.{⊎-elim}
 use Prim.Native.Nat.{_-_}
 use native.Mathlib.Omega.{arith}
 use lib.ListN.{length-set}
+use Rattle.selection.proofs.CopyPicks.{copy-part, copy-some, copy-atoms}
 use Rattle.touch.specs.Touch.{copiesTouch}
-use Rattle.selection.proofs.SoundLists.{sound-lists}
+use Rattle.boxes.specs.Boxes.{spanOf}
+use Rattle.clusters.proofs.Accepted.{accepted-sound, accepted-lists, accepted-tested}
 use Rattle.clusters.proofs.Checks.{ready-of}
 use Rattle.clusters.proofs.Passes.{Run, run-first, run-skip, run-touch, run-last, run-asks}
 use borrow.Author.Needs.{needs}
@@ -14,45 +16,47 @@ use Rattle.clusters.proofs.scan_row.Statement.{statement}
 use Rattle.clusters.proofs.scan_row.Tie as tie
 
 abbrev Inv-loop : tie.InvT-loop
-Inv-loop cell solutes starts picks table₀ i n j₀ table j = Run (copiesTouch cell solutes starts picks) n i table₀ table j
+Inv-loop cell solutes starts picks table₀ i n g s j₀ table j = Run (copiesTouch cell solutes starts picks) n i table₀ table j
 
 abbrev μ-loop : tie.MeasureT-loop
-μ-loop cell solutes starts picks table₀ i n j₀ table j = n - j
+μ-loop cell solutes starts picks table₀ i n g s j₀ table j = n - j
 
 sub-n : tie.Need-sub-n Inv-loop μ-loop
-sub-n c =
-    let st = c .before .before .before .before in
-    let ls = sound-lists (st .args .solutes .now) (st .args .starts .now) (st .args .picks .now) (st .pre .0) in
-    omega (arith, ls .number)
+sub-n c = omega (arith, accepted-lists _ _ _ _ (c .before .before .before .before .pre .0) .number)
+
+gates-of-requires : tie.Need-gates-of-requires Inv-loop μ-loop
+gates-of-requires c κs = search needs
+
+copy-picks-requires : tie.Need-copy-picks-requires Inv-loop μ-loop
+copy-picks-requires c κs = let st = c .before .before .before .before .before in copy-part _ _ _ (accepted-lists _ _ _ _ (st .pre .0)) _ (st .pre .1 .2)
+
+span-of-requires : tie.Need-span-of-requires Inv-loop μ-loop
+span-of-requires c κs =
+    let st = c .before .before .before .before .before .before in
+    let ls = accepted-lists _ _ _ _ (st .pre .0) in
+    (rw (c .copy-picks .ensures) (copy-some _ _ _ ls _ (st .pre .1 .2)), rw (c .copy-picks .ensures) (copy-atoms _ _ _ ls _ (st .pre .1 .2)))
 
 add-j : tie.Need-add-j Inv-loop μ-loop
-add-j c =
-    let st = c .before .before .before .before in
-    let ls = sound-lists (st .args .solutes .now) (st .args .starts .now) (st .args .picks .now) (st .pre .0) in
-    omega (arith, ls .few, st .pre .1 .2)
+add-j c = let st = c .before .before .before .before .before .before .before in omega (arith, accepted-lists _ _ _ _ (st .pre .0) .few, st .pre .1 .2)
 
 loop-holds : tie.Need-loop-holds Inv-loop μ-loop
 loop-holds c =
-    let st = c .before .before .before .before in
-    let ls = sound-lists (st .args .solutes .now) (st .args .starts .now) (st .args .picks .now) (st .pre .0) in
+    let st = c .before .before .before .before .before .before .before in
+    let ls = accepted-lists _ _ _ _ (st .pre .0) in
     run-first (ls .few) (st .pre .1 .0) (st .pre .1 .2) (ready-of _ _ (ls .few) (st .pre .1 .1))
 
-copies-touch-requires : tie.Need-copies-touch-requires Inv-loop μ-loop
-copies-touch-requires c κs =
-    let st = c .before .before .before .before .before .before in
-    (st .pre .0, (st .pre .1 .2, c .loop-test .taken))
+row-touch-requires : tie.Need-row-touch-requires Inv-loop μ-loop
+row-touch-requires c κs =
+    let st = c .before .before .before .before .before .before .before .before .before in
+    (accepted-sound _ _ _ _ (st .pre .0), ((c .before .before .before .before .gates-of .ensures, accepted-tested _ _ _ _ (st .pre .0), c .before .before .span-of .ensures ∙ ap (spanOf _) (c .before .before .before .copy-picks .ensures)), (st .pre .1 .2, c .loop-test .taken)))
 
 add-contact-requires : tie.Need-add-contact-requires Inv-loop μ-loop
 add-contact-requires c κs =
-    let st = c .before .before .before .before .before .before .before .before .before in
-    let ls = sound-lists (st .args .solutes .now) (st .args .starts .now) (st .args .picks .now) (st .pre .0) in
-    run-asks (c .before .before .before .before .loop .inv) (ls .few) (c .before .before .before .loop-test .taken)
+    let st = c .before .before .before .before .before .before .before .before .before .before .before .before in
+    run-asks (c .before .before .before .before .loop .inv) (accepted-lists _ _ _ _ (st .pre .0) .few) (c .before .before .before .loop-test .taken)
 
 add-j-2 : tie.Need-add-j-2 Inv-loop μ-loop
-add-j-2 c =
-    let st = c .before .before .before .before .before .before .before .before in
-    let ls = sound-lists (st .args .solutes .now) (st .args .starts .now) (st .args .picks .now) (st .pre .0) in
-    omega (arith, ls .few)
+add-j-2 c = let st = c .before .before .before .before .before .before .before .before .before .before .before in omega (arith, accepted-lists _ _ _ _ (st .pre .0) .few)
 
 loop-less : tie.Need-loop-less Inv-loop μ-loop
 loop-less c = search needs
@@ -61,8 +65,8 @@ loop-again : tie.Need-loop-again Inv-loop μ-loop
 loop-again c =
     let b = c .before .before .before in
     ⊎-elim
-    (λ w. rw (w .5 ∙ w .2 .ensures) (run-touch (b .loop .inv) (c .before .before .loop-test .taken) (sym (c .before .copies-touch .ensures) ∙ w .0 .taken)))
-    (λ w. rw (w .1) (run-skip (b .loop .inv) (c .before .before .loop-test .taken) (sym (c .before .copies-touch .ensures) ∙ w .0 .left)))
+    (λ w. rw (w .5 ∙ w .2 .ensures) (run-touch (b .loop .inv) (c .before .before .loop-test .taken) (sym (c .before .row-touch .ensures) ∙ w .0 .taken)))
+    (λ w. rw (w .1) (run-skip (b .loop .inv) (c .before .before .loop-test .taken) (sym (c .before .row-touch .ensures) ∙ w .0 .left)))
     (c .if1 .came)
 
 add-table : tie.Need-add-table Inv-loop μ-loop
@@ -75,7 +79,7 @@ add-table-3 : tie.Need-add-table-3 Inv-loop μ-loop
 add-table-3 c = search needs
 
 mul-table : tie.Need-mul-table Inv-loop μ-loop
-mul-table c = search needs
+mul-table c = let st = c .before .before .before .before .before .before .before .before .before in omega (arith, accepted-lists _ _ _ _ (st .pre .0) .few, st .pre .1 .2)
 
 slice-write-table : tie.Need-slice-write-table Inv-loop μ-loop
 slice-write-table c = search needs
@@ -93,9 +97,12 @@ scan-row-spec =
     Inv-loop
     μ-loop
     sub-n
+    gates-of-requires
+    copy-picks-requires
+    span-of-requires
     add-j
     loop-holds
-    copies-touch-requires
+    row-touch-requires
     add-contact-requires
     add-j-2
     loop-less
