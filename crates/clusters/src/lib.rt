@@ -152,6 +152,14 @@ fn add_contact(table: &mut [u32], n: usize, i: usize, j: usize)
     raise(table, 1);
 }
 
+// Mark i becomes 1.
+fn set_mark(table: &mut [u32], n: usize, i: usize)
+    requires { ⌜ (n ≤ 4096) × (words n ≤ length (now table)) × (i < n) ⌝ }
+    ensures { λ _. ⌜ now (table .exit) ≡ set (now (table .entry)) (2 + n + n + i) 1 ⌝ }
+{
+    table[2 + n + n + i] = 1;
+}
+
 // Row i of input that nothing refuses on a sound table: what Row's tests establish is asked, and nothing is tested again. The box of copy i and the
 // cell's gates settle most copies (crate `boxes`).
 pub fn scan_row(
@@ -176,7 +184,7 @@ pub fn scan_row(
         }
         j += 1;
     }
-    table[2 + n + n + i] = 1;
+    set_mark(table, n, i);
 }
 
 // Row i: 1, 2, 3, 4, 15, 8, 7, 9, 10, 11 in this order, or the row's contacts.
@@ -234,14 +242,14 @@ fn scan_boxed(
 {
     let n = starts.len() - 1;
     boxes::mark_apart(g, room, flags, n, i);
-    let mut j = i + 1;
-    while j < n {
-        if boxes::marked_touch(cell, g, solutes, starts, picks, room, flags, i, j) {
-            add_contact(table, n, i, j);
+    let mut k = i + 1;
+    while k < n {
+        if boxes::marked_touch(cell, g, solutes, starts, picks, room, flags, i, k) {
+            add_contact(table, n, i, k);
         }
-        j += 1;
+        k += 1;
     }
-    table[2 + n + n + i] = 1;
+    set_mark(table, n, i);
 }
 
 // Opens the table and scans every row in rising order, with the box table.
@@ -261,10 +269,10 @@ fn scan_rows(
     requires { ⌜ Boxes (now solutes) (now starts) (now picks) (now room) ⌝ }
     ensures { λ _. ⌜ now (table .exit) ≡ scanned cell (now (solutes .entry)) (now (starts .entry)) (now (picks .entry)) (now (table .entry)) ⌝ }
 {
-    let n = starts.len() - 1;
-    open_table(table, n);
+    let copies = starts.len() - 1;
+    open_table(table, copies);
     let mut i = 0;
-    while i < n {
+    while i < copies {
         scan_boxed(cell, g, solutes, starts, picks, room, flags, table, i);
         i += 1;
     }

@@ -3,7 +3,6 @@ use mathlib.Core.Path.{sym, ap, _∙_}
 use mathlib.Core.Logic.{⊎-elim}
 use Prim.Native.Nat.{_-_}
 use native.Mathlib.Omega.{arith}
-use lib.ListN.{length-set}
 use Rattle.touch.specs.Touch.{copiesTouch}
 use Rattle.clusters.proofs.Accepted.{accepted-sound, accepted-lists, accepted-tested}
 use Rattle.clusters.proofs.Checks.{ready-of}
@@ -13,10 +12,10 @@ use Rattle.clusters.proofs.scan_boxed.Statement.{statement}
 use Rattle.clusters.proofs.scan_boxed.Tie as tie
 
 abbrev Inv-loop : tie.InvT-loop
-Inv-loop cell g solutes starts picks room flags table₀ i n j₀ table j = Run (copiesTouch cell solutes starts picks) n i table₀ table j
+Inv-loop cell g solutes starts picks room flags table₀ i n k₀ table k = Run (copiesTouch cell solutes starts picks) n i table₀ table k
 
 abbrev μ-loop : tie.MeasureT-loop
-μ-loop cell g solutes starts picks room flags table₀ i n j₀ table j = n - j
+μ-loop cell g solutes starts picks room flags table₀ i n k₀ table k = n - k
 
 sub-n : tie.Need-sub-n Inv-loop μ-loop
 sub-n c = omega (arith, accepted-lists _ _ _ _ (c .before .before .before .before .before .before .pre .0) .number)
@@ -24,8 +23,8 @@ sub-n c = omega (arith, accepted-lists _ _ _ _ (c .before .before .before .befor
 mark-apart-requires : tie.Need-mark-apart-requires Inv-loop μ-loop
 mark-apart-requires c κs = let st = c .before .before .before .before .before .before .before in (accepted-lists _ _ _ _ (st .pre .0) .few, st .pre .1 .0 .2, st .pre .1 .1 .0 .1, st .pre .1 .1 .0 .2)
 
-add-j : tie.Need-add-j Inv-loop μ-loop
-add-j c = let st = c .before .before .before .before .before .before .before .before .before .before in omega (arith, accepted-lists _ _ _ _ (st .pre .0) .few, st .pre .1 .0 .2)
+add-k : tie.Need-add-k Inv-loop μ-loop
+add-k c = let st = c .before .before .before .before .before .before .before .before .before .before in omega (arith, accepted-lists _ _ _ _ (st .pre .0) .few, st .pre .1 .0 .2)
 
 loop-holds : tie.Need-loop-holds Inv-loop μ-loop
 loop-holds c =
@@ -44,8 +43,8 @@ add-contact-requires c κs =
     let st = c .before .before .before .before .before .before .before .before .before .before .before .before .before .before .before .before in
     run-asks (c .before .before .before .before .before .loop .inv) (accepted-lists _ _ _ _ (st .pre .0) .few) (c .before .before .before .before .loop-test .taken)
 
-add-j-2 : tie.Need-add-j-2 Inv-loop μ-loop
-add-j-2 c = let st = c .before .before .before .before .before .before .before .before .before .before .before .before .before .before .before in omega (arith, accepted-lists _ _ _ _ (st .pre .0) .few)
+add-k-2 : tie.Need-add-k-2 Inv-loop μ-loop
+add-k-2 c = let st = c .before .before .before .before .before .before .before .before .before .before .before .before .before .before .before in omega (arith, accepted-lists _ _ _ _ (st .pre .0) .few)
 
 loop-less : tie.Need-loop-less Inv-loop μ-loop
 loop-less c = search needs
@@ -58,29 +57,17 @@ loop-again c =
     (λ w. rw (w .1) (run-skip (b .loop .inv) (c .before .before .before .loop-test .taken) (sym (c .before .marked-touch .ensures) ∙ w .0 .left)))
     (c .if1 .came)
 
-add-table : tie.Need-add-table Inv-loop μ-loop
-add-table c = search needs
-
-add-table-2 : tie.Need-add-table-2 Inv-loop μ-loop
-add-table-2 c = search needs
-
-add-table-3 : tie.Need-add-table-3 Inv-loop μ-loop
-add-table-3 c = search needs
-
-mul-table : tie.Need-mul-table Inv-loop μ-loop
-mul-table c = search needs
-
-slice-write-table : tie.Need-slice-write-table Inv-loop μ-loop
-slice-write-table c = search needs
+set-mark-requires : tie.Need-set-mark-requires Inv-loop μ-loop
+set-mark-requires c κs = let st = c .before .before .before .before .before .before .before .before .before .before .before .before .before in (accepted-lists _ _ _ _ (st .pre .0) .few, c .before .before .loop .inv .long, st .pre .1 .0 .2)
 
 same-length : tie.Need-same-length Inv-loop μ-loop
 same-length c = search needs
 
 same-length-2 : tie.Need-same-length-2 Inv-loop μ-loop
-same-length-2 c = search needs
+same-length-2 c = search (needs, c .before .before .before .before .before .loop .inv .same)
 
 returns : tie.Need-returns Inv-loop μ-loop
-returns c = run-last (c .before .loop .inv) (c .loop-test .left)
+returns c = c .before .before .set-mark .ensures ∙ run-last (c .before .before .before .before .before .loop .inv) (c .before .before .before .before .loop-test .left)
 
 pub scan-boxed-spec : {M : Type 1} → statement M
 scan-boxed-spec =
@@ -90,18 +77,14 @@ scan-boxed-spec =
     μ-loop
     sub-n
     mark-apart-requires
-    add-j
+    add-k
     loop-holds
     marked-touch-requires
     add-contact-requires
-    add-j-2
+    add-k-2
     loop-less
     loop-again
-    add-table
-    add-table-2
-    add-table-3
-    mul-table
-    slice-write-table
+    set-mark-requires
     same-length
     same-length-2
     returns)

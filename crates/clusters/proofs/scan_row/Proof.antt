@@ -4,7 +4,6 @@ use mathlib.Core.Path.{sym, ap, _∙_}
 use mathlib.Core.Logic.{⊎-elim}
 use Prim.Native.Nat.{_-_}
 use native.Mathlib.Omega.{arith}
-use lib.ListN.{length-set}
 use Rattle.selection.proofs.CopyPicks.{copy-part, copy-some, copy-atoms}
 use Rattle.touch.specs.Touch.{copiesTouch}
 use Rattle.boxes.specs.Boxes.{spanOf}
@@ -69,26 +68,14 @@ loop-again c =
     (λ w. rw (w .1) (run-skip (b .loop .inv) (c .before .before .loop-test .taken) (sym (c .before .row-touch .ensures) ∙ w .0 .left)))
     (c .if1 .came)
 
-add-table : tie.Need-add-table Inv-loop μ-loop
-add-table c = search needs
-
-add-table-2 : tie.Need-add-table-2 Inv-loop μ-loop
-add-table-2 c = search needs
-
-add-table-3 : tie.Need-add-table-3 Inv-loop μ-loop
-add-table-3 c = search needs
-
-mul-table : tie.Need-mul-table Inv-loop μ-loop
-mul-table c = let st = c .before .before .before .before .before .before .before .before .before in omega (arith, accepted-lists _ _ _ _ (st .pre .0) .few, st .pre .1 .2)
-
-slice-write-table : tie.Need-slice-write-table Inv-loop μ-loop
-slice-write-table c = search needs
+set-mark-requires : tie.Need-set-mark-requires Inv-loop μ-loop
+set-mark-requires c κs = let st = c .before .before .before .before .before .before .before .before .before .before in (accepted-lists _ _ _ _ (st .pre .0) .few, c .before .before .loop .inv .long, st .pre .1 .2)
 
 same-length : tie.Need-same-length Inv-loop μ-loop
-same-length c = simp length-set (c .before .loop .inv .same)
+same-length c = search (needs, c .before .before .before .before .before .loop .inv .same)
 
 returns : tie.Need-returns Inv-loop μ-loop
-returns c = run-last (c .before .loop .inv) (c .loop-test .left)
+returns c = c .before .before .set-mark .ensures ∙ run-last (c .before .before .before .before .before .loop .inv) (c .before .before .before .before .loop-test .left)
 
 pub scan-row-spec : {M : Type 1} → statement M
 scan-row-spec =
@@ -107,10 +94,6 @@ scan-row-spec =
     add-j-2
     loop-less
     loop-again
-    add-table
-    add-table-2
-    add-table-3
-    mul-table
-    slice-write-table
+    set-mark-requires
     same-length
     returns)

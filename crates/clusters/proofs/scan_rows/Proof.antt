@@ -15,13 +15,13 @@ use Rattle.clusters.proofs.scan_rows.Statement.{statement}
 use Rattle.clusters.proofs.scan_rows.Tie as tie
 
 abbrev Inv-loop : tie.InvT-loop
-Inv-loop cell g solutes starts picks room flags₀ table₀ n i₀ flags table i = Scan (given cell solutes starts picks) table₀ table i × (length flags ≡ length flags₀)
+Inv-loop cell g solutes starts picks room flags₀ table₀ copies i₀ flags table i = Scan (given cell solutes starts picks) table₀ table i × (length flags ≡ length flags₀)
 
 abbrev μ-loop : tie.MeasureT-loop
-μ-loop cell g solutes starts picks room flags₀ table₀ n i₀ flags table i = n - i
+μ-loop cell g solutes starts picks room flags₀ table₀ copies i₀ flags table i = copies - i
 
-sub-n : tie.Need-sub-n Inv-loop μ-loop
-sub-n c = let st = c .before .before .before .before .before .before in omega (arith, sound-lists _ _ _ (lists (given (st .args .cell) (st .args .solutes .now) (st .args .starts .now) (st .args .picks .now)) (st .pre .0)) .number)
+sub-copies : tie.Need-sub-copies Inv-loop μ-loop
+sub-copies c = let st = c .before .before .before .before .before .before in omega (arith, sound-lists _ _ _ (lists (given (st .args .cell) (st .args .solutes .now) (st .args .starts .now) (st .args .picks .now)) (st .pre .0)) .number)
 
 open-table-requires : tie.Need-open-table-requires Inv-loop μ-loop
 open-table-requires c κs = let st = c .before .before .before .before .before .before .before in (few (given (st .args .cell) (st .args .solutes .now) (st .args .starts .now) (st .args .picks .now)) (st .pre .0), st .pre .1 .0)
@@ -70,7 +70,7 @@ scan-rows-spec =
     (tie.spec
     Inv-loop
     μ-loop
-    sub-n
+    sub-copies
     open-table-requires
     loop-holds
     scan-boxed-requires
