@@ -22,7 +22,8 @@ use Rattle.clusters.specs.Table.{words, opened, rowTable, soundTable}
 use Rattle.clusters.specs.Answers.{openRefusal, openLeaves, closeRefusal, closeFractions, tableFractions}
 use Rattle.clusters.specs.Order.{Input, copiesOf, touchOf, row, answer, leaves, after}
 use Rattle.clusters.specs.Scan.{given, rising, scanned}
-use Rattle.clusters.proofs.Refusals.{at-none, open-none}
+use Rattle.cell.proofs.Tables.{at-none}
+use Rattle.clusters.proofs.Refusals.{open-none}
 use Rattle.clusters.proofs.Lengths.{row-length}
 use Rattle.clusters.proofs.Held.{sound-table, close-answer}
 use Rattle.clusters.proofs.Calls.{State, state-first, next-row, no-row}

@@ -14,7 +14,7 @@ use Rattle.cell.proofs.FrameRefusals.{limit-numbered}
 use Rattle.octree.specs.Tree.{treeRefusal}
 use Rattle.tree.specs.Tree.{byOutcome, roomRefusal}
 use Rattle.cell.specs.Limits.{limitRefusals, lengths, counts, bounds, coordinates}
-use Rattle.tree.proofs.Outcomes.{at-refusal}
+use Rattle.cell.proofs.Tables.{at-refusal}
 use Rattle.tree.proofs.TreeRefusals.{without, first-without}
 use Rattle.report.specs.Report.{reportRoom}
 use Rattle.mixing.specs.Frame.{Frame, Tables, Outcome, kept, pickNumbers, treeIn, short, tableRefusals, limited, empty, frameRefusal, frameBlank, refused, blankOutcome, mixedOutcome, frameOutcome, worked, tablesAfter}

@@ -7,7 +7,7 @@ use Prim.Native.Nat.{ℕ}
 use native.Mathlib.Omega.{arith}
 use lib.Ieee.{binary32, toBits}
 use Rattle.dispersion.specs.Dispersion.{dispersedNumber, dispersedScore}
-use Rattle.tree.proofs.Outcomes.{at-refusal}
+use Rattle.cell.proofs.Tables.{at-refusal}
 use Rattle.mixing_c.specs.Interface.{bitsOf, answersAfter}
 use Rattle.mixing_c.proofs.Writing.{none-written, next-word}
 use Rattle.mixing_c.proofs.give.dispersed.Statement.{statement}
