@@ -1,15 +1,64 @@
 -- The starred frames of document 01, as the definitions compute them: `starred`. Assumes nothing.
-use mathlib.Core.Path.{refl}
-use lib.Ieee.{ofBits, toBits, ofInt, sub, mul, div, lt, le}
+use mathlib.Core.Path.{_≡_, refl, sym, ap}
+use mathlib.Core.Bool.{Bool, true, false, not, _&&_, _||_}
+use mathlib.Core.List.{[]}
+use lib.Dec.{eqb}
+use lib.ListN.{length}
+use lib.Ieee.{ofBits, toBits, ofInt, neg, sub, mul, div, lt, le}
 use Rattle.numbers.specs.Root.{sqrtOf}
 use Rattle.numbers.specs.Whole.{floorOf, roundOf}
+use Rattle.cell.specs.declared.Vec3.{Vec3}
+use Rattle.cell.specs.declared.Cell.{Cell}
 use Rattle.cell.specs.Cell.{extentOf, validAxis, valid, wrapAxis, wrap, imageAxis, minImage, volumeOf, pointAt, finitePoint}
+use Rattle.cell.specs.Refusals.{firstRefusal}
+use Rattle.cell.specs.Limits.{over, anyOver, ragged, long, longIndices, boundOver, lengths, counts, bounds, coordinates, limitRefusals}
 use Rattle.selection.specs.Selection.{finiteAtom, finiteFrom, indexed, picked, copiesFrom, chunks, keptCopies}
 use Rattle.dispersion.specs.Dispersion.{clamped}
 use Rattle.dispersion.proofs.Examples.{checked}
+use Rattle.tree.specs.Points.{finiteWaters}
 use Rattle.report.specs.Leaf.{larger, roomVolume, referenceLeaves, referenceVolume, partitionScore}
-use Rattle.starred.specs.Starred.{Starred, atoms}
+use Rattle.mixing.specs.Frame.{Frame, given, kept, isBlank, limited, empty}
+use Rattle.mixing.proofs.Outcomes.{outcome-blank}
+use Rattle.starred.specs.Starred.{Starred, WithinLimits, AnswersBlank, alike, upTo, atoms}
 
+-- ---- blank frames
+empty-blank : (f : Frame) → empty f ≡ true → WithinLimits f → AnswersBlank f
+empty-blank f e within t = let got = outcome-blank f t within e in (sym (got .0), sym (got .1))
+
+not-valid : (c : Cell) → extentOf c ≡ alike 0x3400_0000 → valid c ≡ false
+unfolding valid validAxis ofBits lt
+not-valid c e = ap (λ (v : Vec3). validAxis (v .x) && (validAxis (v .y) && validAxis (v .z))) e
+
+epsilon-empty : (f : Frame) → extentOf (f .cell) ≡ alike 0x3400_0000 → empty f ≡ true
+unfolding empty isBlank
+epsilon-empty f e = rw (not-valid (f .cell) e)
+
+fourth-holds : (a b c d : Bool) → (a || (b || (c || (true || d)))) ≡ true
+fourth-holds true b c d = refl
+fourth-holds false true c d = refl
+fourth-holds false false true d = refl
+fourth-holds false false false d = refl
+
+none-empty : (f : Frame) → f .per ≡ 0 → empty f ≡ true
+unfolding empty isBlank kept keptCopies copiesFrom chunks
+none-empty f e = rw e (fourth-holds (not (valid (f .cell))) (eqb (length (f .solutes)) 0) (eqb (length (f .waters)) 0) (eqb (finiteWaters (f .waters)) 0))
+
+-- ---- five atoms and a water at the origin
+abbrev narrow : Frame
+narrow = given (upTo 0x3400_0000) (atoms 5) 3 [] (atoms 1)
+
+abbrev ten : Frame
+ten = given (upTo 0x4120_0000) (atoms 5) 0 [] (atoms 1)
+
+narrow-within : WithinLimits narrow
+unfolding limited limitRefusals lengths counts bounds coordinates ragged long longIndices boundOver anyOver over firstRefusal atoms ofBits neg lt
+narrow-within = refl
+
+ten-within : WithinLimits ten
+unfolding limited limitRefusals lengths counts bounds coordinates ragged long longIndices boundOver anyOver over firstRefusal atoms ofBits neg lt
+ten-within = refl
+
+-- ---- all of them
 pub starred : Starred
 unfolding wrap wrapAxis floorOf minImage imageAxis roundOf valid validAxis extentOf sqrtOf keptCopies copiesFrom chunks picked indexed finiteFrom finiteAtom pointAt finitePoint atoms referenceVolume referenceLeaves roomVolume larger volumeOf partitionScore clamped ofBits toBits ofInt sub mul div lt le
 starred =
@@ -20,10 +69,14 @@ starred =
       image-of-minus-5 = refl;
       image-of-4 = refl;
       epsilon-not-valid = refl;
+      epsilon-blank = λ f e. empty-blank f (epsilon-empty f e);
+      epsilon-five-atoms = empty-blank narrow (epsilon-empty narrow refl) narrow-within;
       above-epsilon-valid = refl;
       above-epsilon-disperses = checked .least-extent;
       short-chunk-dropped = refl;
       none-per-copy = refl;
+      none-per-copy-blank = λ f e. empty-blank f (none-empty f e);
+      none-of-five-atoms = empty-blank ten (none-empty ten refl) ten-within;
       repeated-index = refl;
       index-past-copy = refl;
       reference-of-8 = refl;

@@ -8,11 +8,13 @@ use lib.Ieee.{Float, binary32, ofBits, toBits}
 use Rattle.numbers.specs.Root.{sqrtOf}
 use Rattle.cell.specs.declared.Vec3.{Vec3}
 use Rattle.cell.specs.declared.Cell.{Cell}
-use Rattle.cell.specs.Cell.{valid, wrap, minImage}
+use Rattle.cell.specs.Cell.{extentOf, valid, wrap, minImage}
+use Rattle.cell.specs.Refusals.{firstRefusal}
 use Rattle.selection.specs.Selection.{keptCopies}
 use Rattle.selection.specs.Sound.{copiesIn}
 use Rattle.dispersion.specs.Dispersion.{dispersionOf}
 use Rattle.report.specs.Leaf.{referenceVolume, partitionScore}
+use Rattle.mixing.specs.Frame.{Frame, Tables, given, limited, blankOutcome, frameOutcome, tablesAfter}
 
 -- b on each axis, and the cell from 0 to b
 abbrev pub alike : ℕ → Vec3
@@ -26,6 +28,14 @@ unfoldable pub atoms : ℕ → List Float
 atoms zero = []
 atoms (suc n) = ofBits binary32 0 ∷ ofBits binary32 0 ∷ ofBits binary32 0 ∷ atoms n
 
+-- none of 1, 2, 3, 4 refuses the frame
+abbrev pub WithinLimits : Frame → Type 0
+WithinLimits f = firstRefusal (limited f) ≡ 0
+
+-- the whole frame answers blank and leaves the lent tables untouched, whatever they are
+abbrev pub AnswersBlank : Frame → Type 0
+AnswersBlank f = (t : Tables) → (frameOutcome f t ≡ blankOutcome) × (tablesAfter f t ≡ t)
+
 pub record Starred : Type 0 where
   -- cell 0..10: -2 ^ -40 wraps to 10, and 10 wraps to 0
   pub below-wraps-high : wrap (upTo 0x4120_0000) (alike 0xab80_0000) ≡ alike 0x4120_0000
@@ -34,13 +44,19 @@ pub record Starred : Type 0 where
   pub image-of-5 : minImage (alike 0x4120_0000) (alike 0x40a0_0000) ≡ alike 0xc0a0_0000
   pub image-of-minus-5 : minImage (alike 0x4120_0000) (alike 0xc0a0_0000) ≡ alike 0x40a0_0000
   pub image-of-4 : minImage (alike 0x4120_0000) (alike 0x4080_0000) ≡ alike 0x4080_0000
-  -- extents 2 ^ -23: not valid; each 1.5 * 2 ^ -23: valid, dispersion 0 for two copies
+  -- extents 2 ^ -23: not valid, and so blank; five atoms and a water are within the limits there
   pub epsilon-not-valid : valid (upTo 0x3400_0000) ≡ false
+  pub epsilon-blank : (f : Frame) → extentOf (f .cell) ≡ alike 0x3400_0000 → WithinLimits f → AnswersBlank f
+  pub epsilon-five-atoms : AnswersBlank (given (upTo 0x3400_0000) (atoms 5) 3 [] (atoms 1))
+  -- extents each 1.5 * 2 ^ -23: valid, dispersion 0 for two copies
   pub above-epsilon-valid : valid (upTo 0x3440_0000) ≡ true
   pub above-epsilon-disperses : (xs : List Float) (starts picks : List ℕ) → copiesIn starts ≡ 2 → dispersionOf (upTo 0x3440_0000) xs starts picks ≡ ofBits binary32 0
-  -- three atoms per copy, five atoms: one copy; zero per copy: none
+  -- three atoms per copy, five atoms: one copy
   pub short-chunk-dropped : keptCopies (atoms 5) 3 [] ≡ (0 ∷ 1 ∷ 2 ∷ []) ∷ []
+  -- zero per copy: no copy, and so blank; five atoms and a water in the cell 0..10 are within the limits
   pub none-per-copy : keptCopies (atoms 5) 0 [] ≡ []
+  pub none-per-copy-blank : (f : Frame) → f .per ≡ 0 → WithinLimits f → AnswersBlank f
+  pub none-of-five-atoms : AnswersBlank (given (upTo 0x4120_0000) (atoms 5) 0 [] (atoms 1))
   -- indices 0, 0 pick atom 0 twice; index 9 alone picks all three
   pub repeated-index : keptCopies (atoms 3) 3 (0 ∷ 0 ∷ []) ≡ (0 ∷ 0 ∷ []) ∷ []
   pub index-past-copy : keptCopies (atoms 3) 3 (9 ∷ []) ≡ (0 ∷ 1 ∷ 2 ∷ []) ∷ []
