@@ -1,27 +1,31 @@
--- The counts that Select, Tree and Report answer fit a word: within the limits copies, picks, nodes and leaves are few, and no tree is
+-- The counts that Select, Tree, Report and the whole frame answer fit a word: within the limits copies, picks, nodes and leaves are few, and no tree is
 -- deeper than 14. Assumes nothing.
 use mathlib.Core.Path.{_≡_, refl, sym, _∙_}
 use mathlib.Core.Bool.{Bool, true, false, cond, _&&_}
-use mathlib.Core.List.{List, [], _∷_}
+use mathlib.Core.List.{List, [], _∷_, _++_}
 use Prim.Native.Nat.{ℕ, zero, suc, _+_, _^_, _≤_, _<_}
 use native.Mathlib.Omega.{arith}
-use lib.Dec.{eqb}
+use lib.Dec.{eqb, ltb}
 use lib.ListN.{length, getD}
 use lib.Ieee.{Float}
+use borrow.Author.Tests.{ltb-true, ltb-false}
 use Rattle.cell.specs.declared.Cell.{Cell}
 use Rattle.cell.specs.Refusals.{firstRefusal}
 use Rattle.cell.specs.Tables.{unlessRefused}
 use Rattle.selection.specs.Selection.{keptCopies, joined, selectRefusal, selectValues}
-use Rattle.selection.proofs.SoundSelect.{select-room}
+use Rattle.selection.proofs.SoundSelect.{select-room, select-sound}
 use Rattle.octree.specs.Bounds.{cellBox}
-use Rattle.octree.specs.Tree.{Node, deepest}
+use Rattle.octree.specs.Tree.{Node, deepest, treeRefusal}
 use Rattle.octree.proofs.Counting.{nodes-within}
 use Rattle.tree.specs.Points.{treeCenters, treeWaters}
 use Rattle.tree.specs.Tree.{frameTree, testRefusals, treeCallRefusal, treeCallValues}
 use Rattle.tree.proofs.TreeRefusals.{Tested, tested, call-tested}
-use Rattle.report.specs.Report.{isReported, reportedLeaves, dryLeaves, reportValues}
+use Rattle.report.specs.Report.{isReported, reportedLeaves, dryLeaves, reportRoom, reportValues}
 use Rattle.report.proofs.LeafList.{reported-few}
 use Rattle.report.proofs.ReportOutcomes.{nodes-small}
+use Rattle.mixing.specs.Frame.{Frame, Tables, kept, startList, pickNumbers, treeIn, limited, empty, short, Outcome, refused, blankOutcome, mixedOutcome, frameOutcome}
+use Rattle.mixing.proofs.Outcomes.{outcome-limit, outcome-blank, outcome-5, outcome-6, outcome-7, outcome-worked}
+use Rattle.mixing.proofs.Tested.{waters-few}
 
 -- each of the values fits a word
 abbrev pub Small : List ℕ → Type 0
@@ -67,6 +71,21 @@ dry-few (v ∷ vs) = by-test (isReported v) (eqb (v .waters) 0) (dry-few vs)
     by-test true false h = omega arith
     by-test false b h = omega arith
 
+module _ (c : Cell) (solutes waters : List Float) (starts picks : List ℕ) where
+  depth-few : deepest (frameTree c solutes waters starts picks .nodes) ≤ 14
+  unfolding frameTree
+  depth-few =
+      deepest-most (frameTree c solutes waters starts picks .nodes)
+      (λ v₀ i h. nodes-within (cellBox c) (treeCenters c solutes starts picks) (treeWaters c waters) v₀ i h .shallow)
+
+  leaves-small : length (frameTree c solutes waters starts picks .nodes) < 2 ^ 32 → Small (reportValues (frameTree c solutes waters starts picks .nodes))
+  unfolding reportValues
+  leaves-small few =
+      let vs = frameTree c solutes waters starts picks .nodes in
+      let two = small-two (reportedLeaves vs) (dryLeaves vs) (omega (arith, few, reported-few vs)) (omega (arith, few, reported-few vs, dry-few vs)) in
+      small-more (length vs) (deepest vs ∷ reportedLeaves vs ∷ dryLeaves vs ∷ []) few
+      (small-more (deepest vs) (reportedLeaves vs ∷ dryLeaves vs ∷ []) (omega (arith, depth-few)) two)
+
 module _ (c : Cell) (solutes waters : List Float) (starts picks centerOrder waterOrder : List ℕ) (room : ℕ) where
   -- a tree that is not refused passed the tests
   passed : treeCallRefusal c solutes waters starts picks centerOrder waterOrder room ≡ 0 → Tested c solutes waters starts picks centerOrder waterOrder
@@ -76,29 +95,61 @@ module _ (c : Cell) (solutes waters : List Float) (starts picks centerOrder wate
       none zero h = sym h
       none (suc r) h = absurd (omega (arith, call-tested c solutes waters starts picks centerOrder waterOrder room (suc r) h (λ z. omega arith) .0, e))
 
-  module _ (e : treeCallRefusal c solutes waters starts picks centerOrder waterOrder room ≡ 0) where
-    nodes-few : length (frameTree c solutes waters starts picks .nodes) < 2 ^ 32
-    nodes-few = nodes-small c solutes waters starts picks (passed e .sound) (passed e .waters-few)
-
-    depth-few : deepest (frameTree c solutes waters starts picks .nodes) ≤ 14
-    unfolding frameTree
-    depth-few =
-        deepest-most (frameTree c solutes waters starts picks .nodes)
-        (λ v₀ i h. nodes-within (cellBox c) (treeCenters c solutes starts picks) (treeWaters c waters) v₀ i h .shallow)
-
-    leaves-small : Small (reportValues (frameTree c solutes waters starts picks .nodes))
-    unfolding reportValues
-    leaves-small =
-        let vs = frameTree c solutes waters starts picks .nodes in
-        let two = small-two (reportedLeaves vs) (dryLeaves vs) (omega (arith, nodes-few, reported-few vs)) (omega (arith, nodes-few, reported-few vs, dry-few vs)) in
-        small-more (length vs) (deepest vs ∷ reportedLeaves vs ∷ dryLeaves vs ∷ []) nodes-few
-        (small-more (deepest vs) (reportedLeaves vs ∷ dryLeaves vs ∷ []) (omega (arith, depth-few)) two)
+  nodes-few : treeCallRefusal c solutes waters starts picks centerOrder waterOrder room ≡ 0 → length (frameTree c solutes waters starts picks .nodes) < 2 ^ 32
+  nodes-few e = nodes-small c solutes waters starts picks (passed e .sound) (passed e .waters-few)
 
   pub tree-small : (r : ℕ) → r ≡ treeCallRefusal c solutes waters starts picks centerOrder waterOrder room → Small (treeCallValues r (frameTree c solutes waters starts picks))
   unfolding treeCallValues
   tree-small r h =
       let vs = frameTree c solutes waters starts picks .nodes in
-      small-unless r (length vs ∷ deepest vs ∷ []) (λ z. small-two (length vs) (deepest vs) (nodes-few (sym h ∙ z)) (omega (arith, depth-few (sym h ∙ z))))
+      small-unless r (length vs ∷ deepest vs ∷ []) (λ z. small-two (length vs) (deepest vs) (nodes-few (sym h ∙ z)) (omega (arith, depth-few c solutes waters starts picks)))
 
   pub report-small : (r : ℕ) → r ≡ treeCallRefusal c solutes waters starts picks centerOrder waterOrder room → Small (unlessRefused r (reportValues (frameTree c solutes waters starts picks .nodes)) [])
-  report-small r h = small-unless r (reportValues (frameTree c solutes waters starts picks .nodes)) (λ z. leaves-small (sym h ∙ z))
+  report-small r h = small-unless r (reportValues (frameTree c solutes waters starts picks .nodes)) (λ z. leaves-small c solutes waters starts picks (nodes-few (sym h ∙ z)))
+
+-- ---- the whole frame
+small-both : (xs ys : List ℕ) → Small xs → Small ys → Small (xs ++ ys)
+small-both [] ys f g k = g k
+small-both (x ∷ xs) ys f g zero = f 0
+small-both (x ∷ xs) ys f g (suc k) = small-both xs ys (λ j. f (suc j)) g k
+
+-- a frame is refused, blank or answered, test by test
+module _ (f : Frame) (t : Tables) where
+  -- an outcome with no counts
+  none-counted : (o : Outcome) → o .counts ≡ [] → o ≡ frameOutcome f t → Small (frameOutcome f t .counts)
+  none-counted o n e k = rw (← e, n) (small-none k)
+
+  worked-small : firstRefusal (limited f) ≡ 0 → length (kept f) ≤ 4096 → length (pickNumbers f) ≤ 65536 → Small (mixedOutcome f t .counts)
+  unfolding mixedOutcome treeIn startList pickNumbers kept
+  worked-small e few light =
+      small-both (selectValues (f .solutes) (f .per) (f .indices) (t .starts) (t .picks)) (reportValues (treeIn f .nodes))
+      (select-small (f .solutes) (f .per) (f .indices) (t .starts) (t .picks))
+      (leaves-small (f .cell) (f .solutes) (f .waters) (startList f) (pickNumbers f)
+      (nodes-small (f .cell) (f .solutes) (f .waters) (startList f) (pickNumbers f) (select-sound (f .solutes) (f .per) (f .indices) few light) (waters-few f e)))
+
+  pub frame-small : Small (frameOutcome f t .counts)
+  frame-small = by-limits (firstRefusal (limited f)) refl
+    where
+      by-report : (e : firstRefusal (limited f) ≡ 0) (s : empty f ≡ false) (few : length (kept f) ≤ 4096) (light : length (pickNumbers f) ≤ 65536) (room : short f t ≡ false) (r : ℕ) → r ≡ treeRefusal (reportRoom (t .records) (t .boxes) (t .leaves)) (treeIn f) → Small (frameOutcome f t .counts)
+      by-report e s few light room zero h k = rw (outcome-worked f t e s few light room zero h) (worked-small e few light k)
+      by-report e s few light room (suc r) h k = rw (outcome-worked f t e s few light room (suc r) h) (small-none k)
+
+      by-room : (e : firstRefusal (limited f) ≡ 0) (s : empty f ≡ false) (few : length (kept f) ≤ 4096) (light : length (pickNumbers f) ≤ 65536) (b : Bool) → short f t ≡ b → Small (frameOutcome f t .counts)
+      by-room e s few light true h = none-counted (refused 7) refl (outcome-7 f t e s few light h .0)
+      by-room e s few light false h = by-report e s few light h (treeRefusal (reportRoom (t .records) (t .boxes) (t .leaves)) (treeIn f)) refl
+
+      by-picks : (e : firstRefusal (limited f) ≡ 0) (s : empty f ≡ false) (few : length (kept f) ≤ 4096) (b : Bool) → ltb 65536 (length (pickNumbers f)) ≡ b → Small (frameOutcome f t .counts)
+      by-picks e s few true h = none-counted (refused 6) refl (outcome-6 f t e s few (ltb-true 65536 (length (pickNumbers f)) h) .0)
+      by-picks e s few false h = by-room e s few (ltb-false 65536 (length (pickNumbers f)) h) (short f t) refl
+
+      by-copies : (e : firstRefusal (limited f) ≡ 0) (s : empty f ≡ false) (b : Bool) → ltb 4096 (length (kept f)) ≡ b → Small (frameOutcome f t .counts)
+      by-copies e s true h = none-counted (refused 5) refl (outcome-5 f t e s (ltb-true 4096 (length (kept f)) h) .0)
+      by-copies e s false h = let few = ltb-false 4096 (length (kept f)) h in by-picks e s few (ltb 65536 (length (pickNumbers f))) refl
+
+      by-blank : firstRefusal (limited f) ≡ 0 → (b : Bool) → empty f ≡ b → Small (frameOutcome f t .counts)
+      by-blank e true h = none-counted blankOutcome refl (outcome-blank f t e h .0)
+      by-blank e false h = by-copies e h (ltb 4096 (length (kept f))) refl
+
+      by-limits : (r : ℕ) → r ≡ firstRefusal (limited f) → Small (frameOutcome f t .counts)
+      by-limits zero h = by-blank (sym h) (empty f) refl
+      by-limits (suc r) h = none-counted (refused (suc r)) refl (outcome-limit f t (suc r) h (λ z. omega arith) .0)

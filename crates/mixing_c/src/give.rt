@@ -4,6 +4,7 @@ use cell::Cell;
 use cell::Vec3;
 use clusters::Closing;
 use dispersion::Dispersed;
+use mixing::FrameAnswer;
 use report::Reported;
 use selection::Selected;
 use tree::TreeAnswer;
@@ -18,7 +19,8 @@ ghost use Rattle.clusters.specs.Answers.{closeNumber, fractionsOf};
 ghost use Rattle.dispersion.specs.Dispersion.{dispersedNumber, dispersedScore};
 ghost use Rattle.tree.specs.Tree.{treeNumber, treeAnswered};
 ghost use Rattle.report.specs.Report.{reportNumber, reportAnswered};
-ghost use Rattle.mixing_c.specs.Interface.{cellOf, bitsOf, answersAfter};
+ghost use Rattle.mixing.specs.Frame.{outcomeOf};
+ghost use Rattle.mixing_c.specs.Interface.{cellOf, bitsOf, answersAfter, frameWords};
 
 // The cell of six numbers.
 pub(crate) fn cell(lx: f32, ly: f32, lz: f32, hx: f32, hy: f32, hz: f32) -> Cell
@@ -166,6 +168,50 @@ pub(crate) fn report(a: Reported, answers: &mut [u32]) -> u32
         Reported::Refused(n) => n,
         Reported::Leaves(nodes, depth, reported, dry) => {
             let values = [word(nodes), word(depth), word(reported), word(dry)];
+            words(&values, answers);
+            0
+        }
+    }
+}
+
+// The whole frame's answer: blank is told by its first word.
+pub(crate) fn frame(a: FrameAnswer, answers: &mut [u32]) -> u32
+    requires { ⌜ ((k : ℕ) → getD (outcomeOf a .counts) k 0 < 2 ^ 32) ⌝ }
+    ensures number { λ r. ⌜ r ≡ outcomeOf a .number ⌝ }
+    ensures answers_after { λ r. ⌜ now (answers .exit) ≡ answersAfter (frameWords (outcomeOf a)) (now (answers .entry)) ⌝ }
+{
+    match a {
+        FrameAnswer::Refused(n) => n,
+        FrameAnswer::Blank => {
+            let values = [1, 0, 0, 0, 0, 0, 0, 0, 0, 0, 0];
+            words(&values, answers);
+            0
+        }
+        FrameAnswer::Mixed {
+            copies,
+            picks,
+            largest,
+            contacted,
+            pair,
+            dispersion,
+            nodes,
+            depth,
+            leaves,
+            dry,
+        } => {
+            let values = [
+                0,
+                word(copies),
+                word(picks),
+                numbers::class::to_bits32(largest),
+                numbers::class::to_bits32(contacted),
+                numbers::class::to_bits32(pair),
+                numbers::class::to_bits32(dispersion),
+                word(nodes),
+                word(depth),
+                word(leaves),
+                word(dry),
+            ];
             words(&values, answers);
             0
         }

@@ -11,7 +11,8 @@ ghost use Rattle.dispersion.specs.Dispersion.{dispersionRefusal};
 ghost use Rattle.tree.specs.Points.{finiteWaters};
 ghost use Rattle.tree.specs.Tree.{frameTree, wholeRecords, treeCallRefusal, treeCallValues, centerOrderAfter, waterOrderAfter, recordsAfter, boxesAfter};
 ghost use Rattle.report.specs.Report.{reportRefusal, reportValues, leavesAfter};
-ghost use Rattle.mixing_c.specs.Interface.{cellOf, bitsOf, answersAfter, dispersionValues};
+ghost use Rattle.mixing.specs.Frame.{given, lent, frameOutcome, tablesAfter};
+ghost use Rattle.mixing_c.specs.Interface.{cellOf, bitsOf, answersAfter, dispersionValues, frameWords};
 
 // give.rt: an answer as its number, and its values as words of the answers table
 mod give;
@@ -209,6 +210,54 @@ pub extern "C" fn baithrum_report(
             waters,
             starts,
             picks,
+            center_order,
+            water_order,
+            records,
+            boxes,
+            leaves,
+        ),
+        answers,
+    )
+}
+
+// The whole frame answers blank (1 or 0), copies, picks, the largest, contacted and pair fractions, the dispersion, nodes, greatest depth,
+// reported leaves and dry leaves. A blank frame is no refusal: its result is 0.
+#[no_mangle]
+pub extern "C" fn baithrum_frame(
+    lx: f32,
+    ly: f32,
+    lz: f32,
+    hx: f32,
+    hy: f32,
+    hz: f32,
+    solutes: &[f32],
+    per: usize,
+    indices: &[u32],
+    waters: &[f32],
+    starts: &mut [u32],
+    picks: &mut [u32],
+    clusters: &mut [u32],
+    center_order: &mut [u32],
+    water_order: &mut [u32],
+    records: &mut [u32],
+    boxes: &mut [f32],
+    leaves: &mut [u32],
+    answers: &mut [u32],
+) -> u32
+    ensures number { λ r. ⌜ r ≡ frameOutcome (given (cellOf lx ly lz hx hy hz) (now (solutes .entry)) per (now (indices .entry)) (now (waters .entry))) (lent (now (starts .entry)) (now (picks .entry)) (now (clusters .entry)) (now («center_order» .entry)) (now («water_order» .entry)) (now (records .entry)) (now (boxes .entry)) (now (leaves .entry))) .number ⌝ }
+    ensures tables { λ r. ⌜ lent (now (starts .exit)) (now (picks .exit)) (now (clusters .exit)) (now («center_order» .exit)) (now («water_order» .exit)) (now (records .exit)) (now (boxes .exit)) (now (leaves .exit)) ≡ tablesAfter (given (cellOf lx ly lz hx hy hz) (now (solutes .entry)) per (now (indices .entry)) (now (waters .entry))) (lent (now (starts .entry)) (now (picks .entry)) (now (clusters .entry)) (now («center_order» .entry)) (now («water_order» .entry)) (now (records .entry)) (now (boxes .entry)) (now (leaves .entry))) ⌝ }
+    ensures answers_after { λ r. ⌜ now (answers .exit) ≡ answersAfter (frameWords (frameOutcome (given (cellOf lx ly lz hx hy hz) (now (solutes .entry)) per (now (indices .entry)) (now (waters .entry))) (lent (now (starts .entry)) (now (picks .entry)) (now (clusters .entry)) (now («center_order» .entry)) (now («water_order» .entry)) (now (records .entry)) (now (boxes .entry)) (now (leaves .entry))))) (now (answers .entry)) ⌝ }
+{
+    give::frame(
+        mixing::frame(
+            give::cell(lx, ly, lz, hx, hy, hz),
+            solutes,
+            per,
+            indices,
+            waters,
+            starts,
+            picks,
+            clusters,
             center_order,
             water_order,
             records,
