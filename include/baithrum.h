@@ -19,7 +19,7 @@
  * room. No call keeps anything between calls, allocates, or prints, so calls on different tables may run at the same time.
  *
  * Stack, beside the lent tables, measured at the limits: Select, Open and Centers under 4 KB; Row 17 KB (16,384 bytes of arrays);
- * Close 33 KB (32,768); Dispersion 50 KB (49,152); Tree and Report 1.11 MB (1,097,728).
+ * Close 33 KB (32,768); Dispersion 50 KB (49,152); Tree and Report 1.11 MB (1,097,728); the whole frame 1.14 MB (1,130,496).
  */
 #ifndef BAITHRUM_H
 #define BAITHRUM_H
@@ -164,8 +164,9 @@ uint32_t baithrum_report(float lx, float ly, float lz, float hx, float hy, float
                          float *boxes, size_t boxes_len, uint32_t *leaves, size_t leaves_len,
                          uint32_t *answers, size_t answers_len);
 
-/* The whole frame (not in the library yet): Select, Open, the rows in rising order, Close, Dispersion and Report, with their tables; clusters is the cluster table.
- * Answers: blank, copies, picks, largest, contacted and pair fraction, dispersion, nodes, greatest depth, reported leaves, dry leaves.
+/* The whole frame: Select, Open, the rows in rising order, Close, Dispersion and Report, with their tables; clusters is the cluster table.
+ * Answers, eleven words: blank, copies, picks, largest, contacted and pair fraction, dispersion, nodes, greatest depth, reported leaves,
+ * dry leaves.
  * A frame is blank if the cell is not valid, a coordinate list is empty, no copy is kept or no water is finite. It is no refusal: the
  * result is 0, the first answer is 1, the others are 0, and no other table is changed. Otherwise the first answer is 0.
  * Refusals: 1, 2, 3, 4, then blank, 5, 6, 7 (any table but the node tables), 13. At 13 the pick lists and clusters are filled and the

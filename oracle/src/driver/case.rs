@@ -54,6 +54,8 @@ pub struct Case {
     pub fill: u64,
     /// Only Open, Row and Close are called.
     pub clusters_only: bool,
+    /// Tree and Report are called only as parts of the whole frame, whose tables have all of theirs.
+    pub trees_in_frame: bool,
 }
 
 impl Case {

@@ -106,7 +106,7 @@ impl Checker<'_> {
         } else {
             Picked::read(case.cell, &case.solutes, &case.waters, &starts, &picks)
         };
-        if self.wants(Call::Tree) || self.wants(Call::Report) {
+        if !case.trees_in_frame && (self.wants(Call::Tree) || self.wants(Call::Report)) {
             let worked = with_waters.as_ref().ok().map(|p| Worked::new(p, &case.waters, true));
             self.trees(&starts, &picks, &with_waters, worked)?;
         }

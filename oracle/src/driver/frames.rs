@@ -12,7 +12,8 @@ mod tiny;
 
 pub use full::FULL;
 
-pub const GROUPS: [&str; 6] = ["tables", "tiny", "random", "damaged", "degenerate", "full"];
+/// `small` stands last, so that the others give the same cases as before it came.
+pub const GROUPS: [&str; 7] = ["tables", "tiny", "random", "damaged", "degenerate", "full", "small"];
 
 /// Case `number` of a group; None past the end of a group that ends.
 pub fn case(group: &str, seed: u64, number: u64) -> Option<Case> {
@@ -24,6 +25,7 @@ pub fn case(group: &str, seed: u64, number: u64) -> Option<Case> {
         "random" => Some(random(&mut rng)),
         "damaged" => Some(damage::damaged(&mut rng)),
         "degenerate" => Some(degenerate(&mut rng)),
+        "small" => Some(small(&mut rng)),
         _ => full::full(number, &mut rng),
     }
 }
@@ -71,6 +73,26 @@ pub fn random(rng: &mut Rng) -> Case {
     let indices = indices(per, rng);
     let case = Case { shape: "random".into(), cell, solutes, per, indices, waters, ..Case::default() };
     around(case, rng)
+}
+
+/// Two to eight copies and one to eight waters in tables with room, so that many frames are answered in a short time. Tree and Report
+/// are called alone in one case of sixteen.
+pub fn small(rng: &mut Rng) -> Case {
+    let cell = cell(rng);
+    let n = rng.between(2, 8);
+    let w = rng.between(1, 8);
+    let per = rng.pick(&[1, 1, 1, 2, 3]);
+    let spread = rng.pick(&[Spread::Inside, Spread::Inside, Spread::Edges, Spread::Around, Spread::Far, Spread::Mixed]);
+    let spoiled = rng.pick(&[0, 0, 0, 0, 10]);
+    let crowded = rng.pick(&[0, 3, 6, 9]);
+    let solutes = copies(n, per, &cell, spread, crowded, spoiled, rng);
+    let waters = points(w, &cell, spread, spoiled, rng);
+    let indices = indices(per, rng);
+    let case = Case { shape: "small".into(), cell, solutes, per, indices, waters, ..Case::default() };
+    let mut case = around(case, rng);
+    case.slack = case.slack.map(|s| s.max(0));
+    case.trees_in_frame = !rng.one_in(16);
+    case
 }
 
 pub fn degenerate(rng: &mut Rng) -> Case {

@@ -18,6 +18,9 @@ use stats::Stats;
 use std::process::exit;
 use std::time::{Duration, Instant};
 
+/// The groups that have as many cases as there is time for.
+const OPEN: [&str; 4] = ["random", "damaged", "degenerate", "small"];
+
 struct Options {
     seed: u64,
     seconds: u64,
@@ -26,6 +29,7 @@ struct Options {
     program: Option<String>,
     dump: String,
     reduce_seconds: u64,
+    dearest: u64,
     runs: usize,
     most_picks: usize,
 }
@@ -45,6 +49,7 @@ fn options(words: &[String]) -> Options {
         program: None,
         dump: "difference.txt".into(),
         reduce_seconds: 60,
+        dearest: u64::MAX,
         runs: 5,
         most_picks: reading::PICKS,
     };
@@ -60,6 +65,7 @@ fn options(words: &[String]) -> Options {
             "--program" => o.program = Some(value.clone()),
             "--dump" => o.dump = value.clone(),
             "--reduce-seconds" => o.reduce_seconds = number(),
+            "--dearest" => o.dearest = number(),
             "--runs" => o.runs = number().max(1) as usize,
             "--most-picks" => o.most_picks = number() as usize,
             #[cfg(mock)]
@@ -102,7 +108,10 @@ fn main() {
 fn try_case(group: &'static str, number: u64, case: case::Case, o: &Options, stats: &mut Stats) {
     signals::now(group, number, o.seed);
     *stats.groups.entry(group).or_default() += 1;
-    if let Err(found) = check::check(&case, None, stats) {
+    let whole = stats.whole;
+    let checked = check::check(&case, None, stats);
+    *stats.whole_by_group.entry(group).or_default() += stats.whole - whole;
+    if let Err(found) = checked {
         println!("DIFFERENCE in group {group}, case {number}, seed {}:", o.seed);
         println!("  {}", found.what);
         println!("again: --seed {} --groups {group} --case {number}", o.seed);
@@ -153,7 +162,7 @@ fn compare(o: &Options) {
     }
     // Full-size frames take up to half of what is left, cheap ones first, while the next one fits.
     if groups.contains(&"full") {
-        let open = groups.iter().any(|g| ["random", "damaged", "degenerate"].contains(g));
+        let open = groups.iter().any(|g| OPEN.contains(g));
         let left = end.saturating_duration_since(Instant::now());
         let until = Instant::now() + if open { left / 2 } else { left };
         let mut number = 0;
@@ -163,7 +172,9 @@ fn compare(o: &Options) {
         while Instant::now() < until && skipped < frames::FULL.len() {
             let (name, cost) = frames::FULL[number as usize % frames::FULL.len()];
             let begin = Instant::now();
-            if begin + Duration::from_secs_f64(cost as f64 * spent / planned) <= until {
+            if cost > o.dearest {
+                skipped += 1;
+            } else if begin + Duration::from_secs_f64(cost as f64 * spent / planned) <= until {
                 let case = frames::case("full", o.seed, number).unwrap();
                 try_case("full", number, case, o, &mut stats);
                 println!("  {name}: {:.1} s", begin.elapsed().as_secs_f64());
@@ -179,7 +190,7 @@ fn compare(o: &Options) {
     }
     // The open groups in turn, until the time is over.
     let open: Vec<&'static str> =
-        groups.iter().copied().filter(|g| ["random", "damaged", "degenerate"].contains(g)).collect();
+        groups.iter().copied().filter(|g| OPEN.contains(g)).collect();
     let mut number = 0;
     while !open.is_empty() && (Instant::now() < end || number == 0) {
         for group in &open {

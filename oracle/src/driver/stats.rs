@@ -28,6 +28,9 @@ pub struct Stats {
     pub answers: BTreeMap<Call, BTreeMap<u32, u64>>,
     pub entries: u64,
     pub groups: BTreeMap<&'static str, u64>,
+    /// Whole frames that were neither blank nor refused, and these by group.
+    pub whole: u64,
+    pub whole_by_group: BTreeMap<&'static str, u64>,
     pub frames: u64,
     pub with_contacts: u64,
     pub with_split: u64,
@@ -62,6 +65,8 @@ impl Stats {
                 .collect();
             println!("  {:<12} {total:>10}   {}", format!("{call:?}").to_lowercase(), each.join("  "));
         }
+        let each: Vec<String> = self.whole_by_group.iter().map(|(group, n)| format!("{group}: {n}")).collect();
+        println!("whole frames neither blank nor refused: {}   {}", self.whole, each.join("  "));
         println!("table entries compared: {}", self.entries);
         println!(
             "scans: {} with contacts ({} contacts)",

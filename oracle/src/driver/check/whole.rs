@@ -95,6 +95,11 @@ impl Checker<'_> {
             // Counted as blank instead of as a success.
             *self.stats.answers.get_mut(&Call::Frame).unwrap().get_mut(&0).unwrap() -= 1;
             self.stats.count(Call::Frame, BLANK);
+        } else if expected == 0 {
+            self.stats.whole += 1;
+            if let (true, Some(w)) = (case.trees_in_frame, some) {
+                self.seen(&w.worked, waters);
+            }
         }
         Ok(())
     }
