@@ -16,7 +16,6 @@ use Rattle.numbers.proofs.Monotone.{sub-mono}
 use Rattle.cell.specs.declared.Cell.{Cell}
 use Rattle.cell.specs.declared.Vec3.{Vec3}
 use Rattle.cell.specs.Cell.{extentOf, minus, pointAt, finitePoint}
-use Rattle.cell.proofs.Finite.{Around}
 use Rattle.touch.specs.Touch.{near, anyIn, anyPair}
 use Rattle.touch.proofs.Any.{any-none}
 use Rattle.gates.specs.declared.Gates.{Gates}

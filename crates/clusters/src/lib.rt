@@ -9,7 +9,7 @@ ghost use lib.Dec.{ltb, eqb};
 ghost use lib.ListN.{length, getD, set};
 ghost use Rattle.cell.specs.Cell.{extentOf};
 ghost use Rattle.cell.specs.Refusals.{numberOf, firstRefusal};
-ghost use Rattle.selection.specs.Sound.{soundLists, copiesIn};
+ghost use Rattle.selection.specs.Sound.{copiesIn};
 ghost use Rattle.selection.specs.Input.{inputRefusals};
 ghost use Rattle.touch.specs.Touch.{copiesTouch};
 ghost use Rattle.gates.specs.Gates.{gatesOf};

@@ -1,21 +1,21 @@
 -- An axis of a tested cell: its extent, turns and images are finite, and images keep the order where turns do. The extent is above
 -- 2 ^ -23 and 2 ^ 17 at most, and a separation of two atoms 2 ^ 21 at most in magnitude. Assumes nothing.
-use mathlib.Core.Path.{_≡_, sym, _∙_}
+use mathlib.Core.Path.{_≡_, sym}
 use mathlib.Core.Bool.{Bool, true, false, not, _&&_, true≢false, and-eq-true-iff}
 use mathlib.Core.List.{List}
-use Prim.Native.Nat.{ℕ, _+_, _*_, _^_, _≤_, _<_}
+use Prim.Native.Nat.{ℕ, _*_, _^_, _≤_, _<_}
 use native.Mathlib.Omega.{arith}
 use lib.Dec.{T, lit≤}
-use lib.Ieee.{Float, nan, inf, fin, binary32, up, down, ofBits, sub, mul, div, lt, le}
+use lib.Ieee.{Float, nan, inf, fin, binary32, up, down, ofBits, mul, div, lt, le}
 use lib.Ieee.Scale.{finite}
-use borrow.Author.Tests.{not-false, not-true}
+use borrow.Author.Tests.{not-true}
 use Rattle.numbers.proofs.Bounds.{Within, exact-pow, mul-within, plain}
 use Rattle.numbers.proofs.Image.{round-keeps}
 use Rattle.numbers.proofs.Quotients.{within-finite, AtLeast, div-within}
 use Rattle.numbers.proofs.Monotone.{sub-mono, mul-mono-left}
 use Rattle.cell.specs.declared.Cell.{Cell}
 use Rattle.cell.specs.declared.Vec3.{Vec3}
-use Rattle.cell.specs.Cell.{epsilon, imageAxis, validAxis, valid, extentOf, pointAt, finitePoint}
+use Rattle.cell.specs.Cell.{imageAxis, validAxis, valid, extentOf, pointAt, finitePoint}
 use Rattle.cell.specs.Limits.{boundOver, anyOver, maxCoordinate, frameRefusals}
 use Rattle.cell.specs.Refusals.{firstRefusal}
 use Rattle.cell.proofs.Finite.{Above, Side, Around, image-axis-within}

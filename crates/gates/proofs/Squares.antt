@@ -2,9 +2,9 @@
 -- keeps the order is used, so that nothing is lost to rounding. Assumes nothing.
 use mathlib.Core.Path.{_≡_, refl}
 use mathlib.Core.Bool.{Bool, true, false}
-use Prim.Native.Nat.{ℕ, _+_, _*_, _^_}
+use Prim.Native.Nat.{_^_}
 use lib.Dec.{T, lit≤}
-use lib.Ieee.{Float, binary32, ofBits, add, sub, mul, lt, le}
+use lib.Ieee.{Float, binary32, ofBits, add, mul, lt, le}
 use lib.Ieee.Fits.{mul-fits, add-fits}
 use lib.Ieee.Scale.{finite}
 use Rattle.numbers.proofs.Bounds.{Within, exact-pow, mul-within, add-within, plain}

@@ -1,10 +1,10 @@
 -- The gate theorem. The image of a separation d is d less k extents, k whole. Of the d from l to m either k is at most what l
 -- takes off, and then d's image is not below l's, or k is at least what m takes off, and then it is not above m's. So the images
 -- of l and m, worked out by the code itself, stand for all of them. Assumes nothing.
-use mathlib.Core.Path.{_≡_, refl, sym, ap, _∙_, subst}
+use mathlib.Core.Path.{_≡_, refl}
 use mathlib.Core.Logic.{_⊎_, inl, inr}
 use mathlib.Core.Bool.{Bool, true, false, _&&_, cond, and-eq-true-iff}
-use Prim.Native.Nat.{ℕ, _+_, _*_, _^_, _≤_, _<_}
+use Prim.Native.Nat.{ℕ, _^_, _≤_}
 use lib.Dec.{T, lit≤}
 use lib.Ieee.{Float, nan, inf, fin, binary32, ofBits, round, neg, sub, mul, div, lt, le}
 use lib.Ieee.Scale.{finite}

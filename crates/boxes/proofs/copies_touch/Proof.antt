@@ -1,13 +1,11 @@
 -- `boxes::copies_touch` meets its contract: the picks of both copies are searched, with the box of the second. Assumes nothing.
-use mathlib.Core.Path.{_≡_, sym, ap, ap₂, _∙_}
+use mathlib.Core.Path.{sym, ap, _∙_}
 use native.Mathlib.Omega.{arith}
-use Rattle.selection.specs.Sound.{pickList}
 use Rattle.selection.proofs.SoundLists.{sound-lists}
 use Rattle.selection.proofs.CopyPicks.{copy-part, copy-some, copy-few, copy-atoms, copy-finite}
 use Rattle.touch.specs.Touch.{copiesTouch}
 use Rattle.selection.specs.Selection.{finiteAtom}
 use Rattle.boxes.specs.Boxes.{spanOf}
-use borrow.Author.Needs.{needs}
 use Rattle.boxes.proofs.copies_touch.Statement.{statement}
 use Rattle.boxes.proofs.copies_touch.Tie as tie
 

@@ -1,7 +1,7 @@
 -- `boxes::ends_of` meets its contract. Invariant: from lo and hi on, what is left of the picks gives the least and the greatest of all; measure
 -- the picks that are left. Assumes nothing.
-use mathlib.Core.Path.{_≡_, refl, sym, _∙_}
-use Prim.Native.Nat.{ℕ, _+_, _-_, _*_, _≤_, _<_, zero-le}
+use mathlib.Core.Path.{_≡_, sym, _∙_}
+use Prim.Native.Nat.{_-_, _≤_, zero-le}
 use native.Mathlib.Omega.{arith}
 use lib.ListN.{length, drop}
 use Rattle.boxes.specs.Boxes.{leastFrom, greatestFrom, leastOf, greatestOf}

@@ -1,7 +1,6 @@
 -- `boxes::fill_axis` meets its contract. Invariant: the entries of the copies before i are right and all others as at entry; measure n - i. Assumes nothing.
 use mathlib.Core.Path.{_∙_, ap}
-use mathlib.Core.List.{List}
-use Prim.Native.Nat.{ℕ, _-_}
+use Prim.Native.Nat.{_-_}
 use native.Mathlib.Omega.{arith}
 use lib.ListN.{length-set}
 use Rattle.selection.specs.Sound.{pickList}

@@ -1,10 +1,10 @@
 -- `boxes::lists_touch` meets its contract. What is left of both lists decides, as long as nothing is found; a pick that is apart from the box of b
 -- is near none of b. The way out by the label has found a pair. Each loop's measure is what is left of its list. Assumes nothing.
-use mathlib.Core.Path.{_≡_, refl, sym, ap, ap₂, _∙_, subst}
+use mathlib.Core.Path.{_≡_, refl, sym, ap, _∙_}
 use mathlib.Core.Bool.{Bool, true, false, _||_}
-use Prim.Native.Nat.{ℕ, _+_, _-_, _≤_, _<_, zero-le}
+use Prim.Native.Nat.{_+_, _-_, _≤_, zero-le}
 use native.Mathlib.Omega.{arith}
-use lib.ListN.{length, drop, getD}
+use lib.ListN.{length, drop}
 use Rattle.cell.specs.Cell.{extentOf, pointAt, finitePoint}
 use Rattle.touch.specs.Touch.{near, anyIn, anyPair}
 use Rattle.touch.proofs.Any.{any-none, any-skip, any-hit, pair-more, pair-none, or-false}

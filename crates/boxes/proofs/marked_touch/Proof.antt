@@ -1,7 +1,5 @@
 -- `boxes::marked_touch` meets its contract: boxes that are apart decide, and otherwise the picks do. Assumes nothing.
-use mathlib.Core.Path.{_≡_, sym, _∙_}
-use mathlib.Core.Bool.{Bool, true, false, cond}
-use Prim.Native.Nat.{ℕ}
+use mathlib.Core.Path.{sym}
 use Rattle.selection.specs.Selection.{finiteAtom}
 use Rattle.selection.proofs.SoundLists.{sound-lists}
 use Rattle.selection.proofs.CopyPicks.{copy-some, copy-finite}

@@ -1,11 +1,10 @@
 -- `boxes::row_touch` meets its contract: the picks of both copies. Assumes nothing.
-use mathlib.Core.Path.{_≡_, sym, ap, _∙_}
+use mathlib.Core.Path.{sym, ap, _∙_}
 use Rattle.selection.specs.Selection.{finiteAtom}
 use Rattle.selection.proofs.SoundLists.{sound-lists}
 use Rattle.selection.proofs.CopyPicks.{copy-part, copy-some, copy-few, copy-atoms, copy-finite}
 use Rattle.touch.specs.Touch.{copiesTouch}
 use Rattle.boxes.specs.Boxes.{spanOf}
-use borrow.Author.Needs.{needs}
 use Rattle.boxes.proofs.row_touch.Statement.{statement}
 use Rattle.boxes.proofs.row_touch.Tie as tie
 

@@ -1,8 +1,6 @@
 -- `boxes::span_of` meets its contract: the ends on each axis. Assumes nothing.
-use mathlib.Core.Path.{_≡_}
 use native.Mathlib.Omega.{arith}
 use Rattle.boxes.specs.Boxes.{spanOf}
-use borrow.Author.Needs.{needs}
 use Rattle.boxes.proofs.span_of.Statement.{statement}
 use Rattle.boxes.proofs.span_of.Tie as tie
 

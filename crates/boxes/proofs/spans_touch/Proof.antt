@@ -1,5 +1,5 @@
 -- `boxes::spans_touch` meets its contract: an axis on which the boxes are apart decides, and otherwise the picks do. Assumes nothing.
-use mathlib.Core.Path.{_≡_, refl, sym, _∙_}
+use mathlib.Core.Path.{refl, sym}
 use native.Mathlib.Omega.{arith}
 use Rattle.boxes.specs.Boxes.{spanOf}
 use Rattle.boxes.proofs.Between.{apart-spans, by-x, by-y, by-z}

@@ -1,5 +1,5 @@
 -- `clusters::scan_boxed` meets its contract: as `scan_row`, with the flags that `mark_apart` has set. Assumes nothing.
-use mathlib.Core.Path.{sym, ap, _∙_}
+use mathlib.Core.Path.{sym, _∙_}
 use mathlib.Core.Logic.{⊎-elim}
 use Prim.Native.Nat.{_-_}
 use native.Mathlib.Omega.{arith}

@@ -1,6 +1,6 @@
 -- `clusters::scan_rows` meets its contract. Invariant, before row i: the rows from i on give, over the table, what every row gives over the
 -- opened one (`Scan`); measure n - i. Assumes nothing.
-use mathlib.Core.Path.{_≡_, refl, _∙_}
+use mathlib.Core.Path.{_≡_, refl}
 use Prim.Native.Nat.{_-_}
 use native.Mathlib.Omega.{arith}
 use native.Mathlib.Numerals.{add-one}
