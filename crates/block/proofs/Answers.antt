@@ -1,7 +1,7 @@
 -- What read_block owes, by its refusal: 14, 7 or none, and then the answer and the three tables.
 -- Assumes nothing.
 use mathlib.Core.Path.{_≡_, refl, sym}
-use mathlib.Core.Bool.{Bool, true, false, true≢false, _||_}
+use mathlib.Core.Bool.{Bool, true, false, _||_}
 use mathlib.Core.List.{List}
 use Prim.Native.Nat.{ℕ, suc, _*_, _≤_}
 use lib.Dec.{ltb}
@@ -10,6 +10,7 @@ use lib.Ieee.{Float}
 use borrow.Author.Tests.{ltb-false}
 use Rattle.cell.specs.Refusals.{firstRefusal}
 use Rattle.cell.specs.Tables.{over}
+use Rattle.cell.proofs.FirstRefusal.{neither}
 use Rattle.block.specs.declared.Block.{Block}
 use Rattle.block.specs.declared.Block.the-variants.{Refused, Frame}
 use Rattle.block.specs.Block.{
@@ -32,11 +33,6 @@ use Rattle.block.specs.Block.{
   solutesAfter,
   watersAfter,
 }
-
--- two tests, neither of which holds
-pub neither : (s t : Bool) → (s || t) ≡ false → (s ≡ false) × (t ≡ false)
-neither true t h = absurd (true≢false h)
-neither false t h = (refl, h)
 
 -- the bytes, and the lent tables for indices, solutes and waters
 module _ (b is : List ℕ) (ss ws : List Float) where

@@ -21,15 +21,12 @@ use Rattle.cell.specs.Cell.{epsilon, validAxis, extentOf, valid, wrap, m
 use Rattle.cell.specs.Limits.{maxBound, maxCoordinate, over, anyOver, boundOver, lengths, counts, bounds, coordinates, validity, frameRefusals}
 use Rattle.cell.specs.Refusals.{Refusal, firstRefusal}
 use Rattle.cell.proofs.Finite.{sub-pow, Above, Side, Sides, Around, around-finite, wrap-around, image-around, minus-around, distance-finite}
+use Rattle.cell.proofs.FirstRefusal.{neither}
 use Rattle.cell.proofs.FrameRefusals.{Accepted, frame-none}
 
 -- ---- tests, read as facts
 both : (a b : Bool) → a && b ≡ true → (a ≡ true) × (b ≡ true)
 both a b = and-eq-true-iff a b .0
-
-neither : (a b : Bool) → a || b ≡ false → (a ≡ false) × (b ≡ false)
-neither true b h = absurd (true≢false h)
-neither false b h = (refl, h)
 
 -- ---- one number
 at-most : (a b c : ℕ) → ltb (1 * b * c) (a * 1) ≡ false → a ≤ b * c

@@ -1,7 +1,7 @@
 -- The first refusal that holds, taken from a list one at a time, and of two lists joined.
 -- Assumes nothing.
 use mathlib.Core.Path.{_≡_, refl}
-use mathlib.Core.Bool.{Bool, true, false, cond, not, _&&_, and-eq-true-iff}
+use mathlib.Core.Bool.{Bool, true, false, true≢false, cond, not, _&&_, _||_, and-eq-true-iff}
 use mathlib.Core.List.{List, [], _∷_, _++_}
 use Prim.Native.Nat.{ℕ}
 use lib.Dec.{eqb}
@@ -53,3 +53,8 @@ append-skip rs ss n e = rw (first-append rs ss n, eq-eqb (firstRefusal rs) 0 e)
 
 pub append-hit : (rs ss : List Refusal) → numbered rs ≡ true → (firstRefusal rs ≡ 0 → ⊥) → firstRefusal (rs ++ ss) ≡ firstRefusal rs
 append-hit rs ss n e = rw (first-append rs ss n, ne-eqb (firstRefusal rs) 0 e)
+
+-- two tests, neither of which holds
+pub neither : (a b : Bool) → (a || b) ≡ false → (a ≡ false) × (b ≡ false)
+neither true b e = absurd (true≢false e)
+neither false b e = (refl, e)

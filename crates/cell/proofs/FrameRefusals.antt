@@ -1,7 +1,7 @@
 -- The frame's refusals: one chain of tests, and what a frame with none of them has. Layers above join their own refusals to these
 -- (`first-append`, with `frame-numbered`). Assumes nothing.
 use mathlib.Core.Path.{_≡_, refl, sym, _∙_}
-use mathlib.Core.Bool.{Bool, true, false, true≢false, cond, not, _||_}
+use mathlib.Core.Bool.{Bool, true, false, cond, not, _||_}
 use mathlib.Core.List.{List, [], _∷_}
 use Prim.Native.Nat.{ℕ, zero, suc}
 use lib.Dec.{ltb}
@@ -12,7 +12,7 @@ use Rattle.cell.specs.declared.Cell.{Cell}
 use Rattle.cell.specs.Cell.{valid}
 use Rattle.cell.specs.Refusals.{firstRefusal}
 use Rattle.cell.specs.Limits.{lengths, counts, bounds, coordinates, validity, limitRefusals, frameRefusals, ragged, long, longIndices, boundOver, anyOver, maxCoordinate}
-use Rattle.cell.proofs.FirstRefusal.{numbered, first-none, append-hit, append-skip}
+use Rattle.cell.proofs.FirstRefusal.{numbered, first-none, append-hit, append-skip, neither}
 
 pub limit-numbered : (c : Cell) (solutes waters : List Float) (indices : List ℕ) → numbered (limitRefusals c solutes waters indices) ≡ true
 unfolding numbered limitRefusals lengths counts bounds coordinates
@@ -51,10 +51,6 @@ pub record Within (c : Cell) (solutes waters : List Float) (indices : List ℕ) 
   pub solutes-within : anyOver maxCoordinate solutes ≡ false
   pub waters-within : anyOver maxCoordinate waters ≡ false
   pub indices-few : longIndices indices ≡ false
-
-neither : (a b : Bool) → (a || b) ≡ false → (a ≡ false) × (b ≡ false)
-neither true b e = absurd (true≢false e)
-neither false b e = (refl, e)
 
 by-valid : (b : Bool) → _≡_ {A = ℕ} (cond (not b) 15 0) 0 → b ≡ true
 by-valid true e = refl

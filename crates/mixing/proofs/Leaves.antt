@@ -14,7 +14,7 @@ use Rattle.octree.specs.Tree.{Node}
 use Rattle.selection.specs.Selection.{keptCopies, joined, selectRefusal, selectValues}
 use Rattle.report.proofs.LeafList.{reported-few}
 use Rattle.report.specs.Report.{reportedLeaves, reportValues, reportRoom}
-use Rattle.mixing.specs.Frame.{Frame, Tables, Outcome, kept, pickNumbers, treeIn, short, limited, empty, refused, blankOutcome, mixedOutcome, frameRefusal, frameBlank, frameOutcome}
+use Rattle.mixing.specs.Frame.{Frame, Tables, Outcome, kept, pickNumbers, treeIn, short, limited, blankHolds, refused, blankOutcome, mixedOutcome, frameRefusal, frameBlank, frameOutcome}
 use Rattle.mixing.proofs.Outcomes.{number-limit, blank-is, chain}
 
 -- ---- an answer with no refusal had room for its nodes

@@ -1,8 +1,8 @@
 -- What the whole frame answers and leaves, test by test. Assumes nothing.
 use mathlib.Core.Path.{_≡_, refl, sym, ap, _∙_}
-use mathlib.Core.Bool.{Bool, true, false, cond, _&&_, and-false}
-use mathlib.Core.List.{List, [], _∷_, _++_, append-nil}
-use Prim.Native.Nat.{ℕ, zero, suc, _≤_, _<_}
+use mathlib.Core.Bool.{Bool, true, false, cond}
+use mathlib.Core.List.{List, []}
+use Prim.Native.Nat.{ℕ, _≤_, _<_}
 use native.Mathlib.Omega.{arith}
 use lib.Dec.{eqb, ltb}
 use lib.ListN.{length}
@@ -17,12 +17,12 @@ use Rattle.cell.specs.Limits.{limitRefusals, lengths, counts, bounds, coordinat
 use Rattle.cell.proofs.Tables.{at-refusal}
 use Rattle.tree.proofs.TreeRefusals.{without, first-without}
 use Rattle.report.specs.Report.{reportRoom}
-use Rattle.mixing.specs.Frame.{Frame, Tables, Outcome, kept, pickNumbers, treeIn, short, tableRefusals, limited, empty, frameRefusal, frameBlank, refused, blankOutcome, mixedOutcome, frameOutcome, worked, tablesAfter}
+use Rattle.mixing.specs.Frame.{Frame, Tables, Outcome, kept, pickNumbers, treeIn, short, tableRefusals, limited, blankHolds, frameRefusal, frameBlank, refused, blankOutcome, mixedOutcome, frameOutcome, worked, tablesAfter}
 
 module _ (f : Frame) (t : Tables) where
   -- ---- the number
   rest : List Refusal
-  rest = cond (empty f) [] (tableRefusals f t)
+  rest = cond (blankHolds f) [] (tableRefusals f t)
 
   pub number-limit : (firstRefusal (limited f) ≡ 0 → ⊥) → frameRefusal f t ≡ firstRefusal (limited f)
   unfolding frameRefusal limited rest
@@ -55,15 +55,15 @@ module _ (f : Frame) (t : Tables) where
 
   -- ---- nothing of these holds: r is 0
   module _ (within : firstRefusal (limited f) ≡ 0) where
-    pub blank-is : frameBlank f ≡ empty f
+    pub blank-is : frameBlank f ≡ blankHolds f
     unfolding frameBlank
     blank-is = rw (eq-eqb (firstRefusal (limited f)) 0 within)
 
-    pub outcome-blank : empty f ≡ true → (blankOutcome ≡ frameOutcome f t) × (t ≡ tablesAfter f t)
+    pub outcome-blank : blankHolds f ≡ true → (blankOutcome ≡ frameOutcome f t) × (t ≡ tablesAfter f t)
     unfolding frameOutcome tablesAfter
     outcome-blank e = rw (blank-is, e) (refl, refl)
 
-    module _ (some : empty f ≡ false) where
+    module _ (some : blankHolds f ≡ false) where
       pub chain : frameRefusal f t
           ≡ cond (ltb 4096 (length (kept f))) 5
           (cond (ltb 65536 (length (pickNumbers f))) 6

@@ -1,10 +1,9 @@
 -- What the tests of a frame establish for the cores that run after them, and what these then leave. Assumes nothing.
-use mathlib.Core.Path.{_≡_, refl, sym, ap, _∙_}
-use mathlib.Core.Bool.{Bool, true, false, true≢false, not, _||_}
-use mathlib.Core.List.{List, [], _∷_, _++_}
+use mathlib.Core.Path.{_≡_, sym, ap, _∙_}
+use mathlib.Core.Bool.{true, false, not, _||_}
+use mathlib.Core.List.{List, [], _∷_}
 use Prim.Native.Nat.{ℕ, _+_, _≤_}
-use native.Mathlib.Omega.{arith}
-use lib.Dec.{ltb, eqb}
+use lib.Dec.{ltb}
 use lib.ListN.{length, take, drop}
 use lib.Seq.{take-at, take-append-seam}
 use lib.Ieee.{Float}
@@ -13,9 +12,10 @@ use Rattle.cell.specs.Cell.{valid}
 use Rattle.cell.specs.Refusals.{firstRefusal}
 use Rattle.cell.specs.Limits.{long, longIndices}
 use Rattle.cell.specs.Tables.{over, unlessRefused}
+use Rattle.cell.proofs.FirstRefusal.{neither}
 use Rattle.cell.proofs.FrameRefusals.{Within, limit-none, within-solutes}
-use Rattle.selection.specs.Selection.{startsOf, joined, selectValues, selectStarts, selectPicks}
-use Rattle.selection.specs.Sound.{copiesIn, soundLists}
+use Rattle.selection.specs.Selection.{startsOf}
+use Rattle.selection.specs.Sound.{copiesIn}
 use Rattle.selection.specs.Input.{inputRefusals}
 use Rattle.selection.proofs.SelectRefusals.{Answers, selected, both-within}
 use Rattle.selection.proofs.SoundSelect.{select-sound, starts-length, starts-copies}
@@ -26,12 +26,8 @@ use Rattle.octree.specs.Tree.{treeRefusal}
 use Rattle.tree.specs.Points.{finiteWaters}
 use Rattle.tree.specs.Tree.{centerOrderAfter, waterOrderAfter, recordsAfter, boxesAfter}
 use Rattle.report.specs.Report.{reportRoom, reportValues, leavesAfter}
-use Rattle.mixing.specs.Frame.{Frame, Tables, Outcome, lent, kept, startList, pickNumbers, treeIn, isBlank, anyShort, short, limited, empty, refused, mixed, fourFractions, mixedOutcome, frameOutcome, worked, tablesAfter}
+use Rattle.mixing.specs.Frame.{Frame, Tables, Outcome, lent, kept, startList, pickNumbers, treeIn, isBlank, anyShort, short, limited, blankHolds, refused, mixed, fourFractions, mixedOutcome, frameOutcome, worked, tablesAfter}
 use Rattle.mixing.proofs.Outcomes.{outcome-worked, tables-worked}
-
-neither : (a b : Bool) → (a || b) ≡ false → (a ≡ false) × (b ≡ false)
-neither true b e = absurd (true≢false e)
-neither false b e = (refl, e)
 
 -- ---- what the limits establish
 module _ (f : Frame) (none : firstRefusal (limited f) ≡ 0) where
@@ -52,9 +48,9 @@ module _ (f : Frame) (none : firstRefusal (limited f) ≡ 0) where
   indices-few = ltb-false 256 (length (f .indices)) (within .indices-few)
 
   -- ---- and that the frame is not blank
-  module _ (some : empty f ≡ false) where
+  module _ (some : blankHolds f ≡ false) where
     valid-cell : valid (f .cell) ≡ true
-    unfolding empty isBlank
+    unfolding blankHolds isBlank
     valid-cell = not-false (valid (f .cell)) (neither (not (valid (f .cell))) _ some .0)
 
     -- ---- and that copies and picks are few

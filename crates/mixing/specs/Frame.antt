@@ -104,16 +104,17 @@ tableRefusals f t =
 unfoldable pub limited : Frame → List Refusal
 limited f = limitRefusals (f .cell) (f .solutes) (f .waters) (f .indices)
 
-unfoldable pub empty : Frame → Bool
-empty f = isBlank (f .cell) (f .solutes) (f .waters) (length (kept f)) (finiteWaters (f .waters))
+-- the condition of blank
+unfoldable pub blankHolds : Frame → Bool
+blankHolds f = isBlank (f .cell) (f .solutes) (f .waters) (length (kept f)) (finiteWaters (f .waters))
 
 -- the first that holds; a blank frame is not refused by its tables
 unfoldable pub frameRefusal : Frame → Tables → ℕ
-frameRefusal f t = firstRefusal (limited f ++ cond (empty f) [] (tableRefusals f t))
+frameRefusal f t = firstRefusal (limited f ++ cond (blankHolds f) [] (tableRefusals f t))
 
 -- blank comes after 1, 2, 3, 4
 unfoldable pub frameBlank : Frame → Bool
-frameBlank f = eqb (firstRefusal (limited f)) 0 && empty f
+frameBlank f = eqb (firstRefusal (limited f)) 0 && blankHolds f
 
 -- ---- the answer
 -- its number; whether it is blank; the largest, contacted and pair fractions and the dispersion; and the counts: copies, picks, nodes,

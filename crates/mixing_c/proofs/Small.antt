@@ -23,7 +23,7 @@ use Rattle.tree.proofs.TreeRefusals.{Tested, tested, call-tested}
 use Rattle.report.specs.Report.{isReported, reportedLeaves, dryLeaves, reportRoom, reportValues}
 use Rattle.report.proofs.LeafList.{reported-few}
 use Rattle.report.proofs.ReportOutcomes.{nodes-small}
-use Rattle.mixing.specs.Frame.{Frame, Tables, kept, startList, pickNumbers, treeIn, limited, empty, short, Outcome, refused, blankOutcome, mixedOutcome, frameOutcome}
+use Rattle.mixing.specs.Frame.{Frame, Tables, kept, startList, pickNumbers, treeIn, limited, blankHolds, short, Outcome, refused, blankOutcome, mixedOutcome, frameOutcome}
 use Rattle.mixing.proofs.Outcomes.{outcome-limit, outcome-blank, outcome-5, outcome-6, outcome-7, outcome-worked}
 use Rattle.mixing.proofs.Tested.{waters-few}
 
@@ -130,26 +130,26 @@ module _ (f : Frame) (t : Tables) where
   pub frame-small : Small (frameOutcome f t .counts)
   frame-small = by-limits (firstRefusal (limited f)) refl
     where
-      by-report : (e : firstRefusal (limited f) ≡ 0) (s : empty f ≡ false) (few : length (kept f) ≤ 4096) (light : length (pickNumbers f) ≤ 65536) (room : short f t ≡ false) (r : ℕ) → r ≡ treeRefusal (reportRoom (t .records) (t .boxes) (t .leaves)) (treeIn f) → Small (frameOutcome f t .counts)
+      by-report : (e : firstRefusal (limited f) ≡ 0) (s : blankHolds f ≡ false) (few : length (kept f) ≤ 4096) (light : length (pickNumbers f) ≤ 65536) (room : short f t ≡ false) (r : ℕ) → r ≡ treeRefusal (reportRoom (t .records) (t .boxes) (t .leaves)) (treeIn f) → Small (frameOutcome f t .counts)
       by-report e s few light room zero h k = rw (outcome-worked f t e s few light room zero h) (worked-small e few light k)
       by-report e s few light room (suc r) h k = rw (outcome-worked f t e s few light room (suc r) h) (small-none k)
 
-      by-room : (e : firstRefusal (limited f) ≡ 0) (s : empty f ≡ false) (few : length (kept f) ≤ 4096) (light : length (pickNumbers f) ≤ 65536) (b : Bool) → short f t ≡ b → Small (frameOutcome f t .counts)
+      by-room : (e : firstRefusal (limited f) ≡ 0) (s : blankHolds f ≡ false) (few : length (kept f) ≤ 4096) (light : length (pickNumbers f) ≤ 65536) (b : Bool) → short f t ≡ b → Small (frameOutcome f t .counts)
       by-room e s few light true h = none-counted (refused 7) refl (outcome-7 f t e s few light h .0)
       by-room e s few light false h = by-report e s few light h (treeRefusal (reportRoom (t .records) (t .boxes) (t .leaves)) (treeIn f)) refl
 
-      by-picks : (e : firstRefusal (limited f) ≡ 0) (s : empty f ≡ false) (few : length (kept f) ≤ 4096) (b : Bool) → ltb 65536 (length (pickNumbers f)) ≡ b → Small (frameOutcome f t .counts)
+      by-picks : (e : firstRefusal (limited f) ≡ 0) (s : blankHolds f ≡ false) (few : length (kept f) ≤ 4096) (b : Bool) → ltb 65536 (length (pickNumbers f)) ≡ b → Small (frameOutcome f t .counts)
       by-picks e s few true h = none-counted (refused 6) refl (outcome-6 f t e s few (ltb-true 65536 (length (pickNumbers f)) h) .0)
       by-picks e s few false h = by-room e s few (ltb-false 65536 (length (pickNumbers f)) h) (short f t) refl
 
-      by-copies : (e : firstRefusal (limited f) ≡ 0) (s : empty f ≡ false) (b : Bool) → ltb 4096 (length (kept f)) ≡ b → Small (frameOutcome f t .counts)
+      by-copies : (e : firstRefusal (limited f) ≡ 0) (s : blankHolds f ≡ false) (b : Bool) → ltb 4096 (length (kept f)) ≡ b → Small (frameOutcome f t .counts)
       by-copies e s true h = none-counted (refused 5) refl (outcome-5 f t e s (ltb-true 4096 (length (kept f)) h) .0)
       by-copies e s false h = let few = ltb-false 4096 (length (kept f)) h in by-picks e s few (ltb 65536 (length (pickNumbers f))) refl
 
-      by-blank : firstRefusal (limited f) ≡ 0 → (b : Bool) → empty f ≡ b → Small (frameOutcome f t .counts)
+      by-blank : firstRefusal (limited f) ≡ 0 → (b : Bool) → blankHolds f ≡ b → Small (frameOutcome f t .counts)
       by-blank e true h = none-counted blankOutcome refl (outcome-blank f t e h .0)
       by-blank e false h = by-copies e h (ltb 4096 (length (kept f))) refl
 
       by-limits : (r : ℕ) → r ≡ firstRefusal (limited f) → Small (frameOutcome f t .counts)
-      by-limits zero h = by-blank (sym h) (empty f) refl
+      by-limits zero h = by-blank (sym h) (blankHolds f) refl
       by-limits (suc r) h = none-counted (refused (suc r)) refl (outcome-limit f t (suc r) h (λ z. omega arith) .0)

@@ -17,21 +17,21 @@ use Rattle.dispersion.specs.Dispersion.{clamped}
 use Rattle.dispersion.proofs.Examples.{checked}
 use Rattle.tree.specs.Points.{finiteWaters}
 use Rattle.report.specs.Leaf.{larger, roomVolume, referenceLeaves, referenceVolume, partitionScore}
-use Rattle.mixing.specs.Frame.{Frame, given, kept, isBlank, limited, empty}
+use Rattle.mixing.specs.Frame.{Frame, given, kept, isBlank, limited, blankHolds}
 use Rattle.mixing.proofs.Outcomes.{outcome-blank}
 use Rattle.starred.specs.Starred.{Starred, WithinLimits, AnswersBlank, alike, upTo, atoms}
 
 -- ---- blank frames
-empty-blank : (f : Frame) → empty f ≡ true → WithinLimits f → AnswersBlank f
-empty-blank f e within t = let got = outcome-blank f t within e in (sym (got .0), sym (got .1))
+holds-blank : (f : Frame) → blankHolds f ≡ true → WithinLimits f → AnswersBlank f
+holds-blank f e within t = let got = outcome-blank f t within e in (sym (got .0), sym (got .1))
 
 not-valid : (c : Cell) → extentOf c ≡ alike 0x3400_0000 → valid c ≡ false
 unfolding valid validAxis ofBits lt
 not-valid c e = ap (λ (v : Vec3). validAxis (v .x) && (validAxis (v .y) && validAxis (v .z))) e
 
-epsilon-empty : (f : Frame) → extentOf (f .cell) ≡ alike 0x3400_0000 → empty f ≡ true
-unfolding empty isBlank
-epsilon-empty f e = rw (not-valid (f .cell) e)
+epsilon-holds : (f : Frame) → extentOf (f .cell) ≡ alike 0x3400_0000 → blankHolds f ≡ true
+unfolding blankHolds isBlank
+epsilon-holds f e = rw (not-valid (f .cell) e)
 
 fourth-holds : (a b c d : Bool) → (a || (b || (c || (true || d)))) ≡ true
 fourth-holds true b c d = refl
@@ -39,9 +39,9 @@ fourth-holds false true c d = refl
 fourth-holds false false true d = refl
 fourth-holds false false false d = refl
 
-none-empty : (f : Frame) → f .per ≡ 0 → empty f ≡ true
-unfolding empty isBlank kept keptCopies copiesFrom chunks
-none-empty f e = rw e (fourth-holds (not (valid (f .cell))) (eqb (length (f .solutes)) 0) (eqb (length (f .waters)) 0) (eqb (finiteWaters (f .waters)) 0))
+none-holds : (f : Frame) → f .per ≡ 0 → blankHolds f ≡ true
+unfolding blankHolds isBlank kept keptCopies copiesFrom chunks
+none-holds f e = rw e (fourth-holds (not (valid (f .cell))) (eqb (length (f .solutes)) 0) (eqb (length (f .waters)) 0) (eqb (finiteWaters (f .waters)) 0))
 
 -- ---- five atoms and a water at the origin
 abbrev narrow : Frame
@@ -69,14 +69,14 @@ starred =
       image-of-minus-5 = refl;
       image-of-4 = refl;
       epsilon-not-valid = refl;
-      epsilon-blank = λ f e. empty-blank f (epsilon-empty f e);
-      epsilon-five-atoms = empty-blank narrow (epsilon-empty narrow refl) narrow-within;
+      epsilon-blank = λ f e. holds-blank f (epsilon-holds f e);
+      epsilon-five-atoms = holds-blank narrow (epsilon-holds narrow refl) narrow-within;
       above-epsilon-valid = refl;
       above-epsilon-disperses = checked .least-extent;
       short-chunk-dropped = refl;
       none-per-copy = refl;
-      none-per-copy-blank = λ f e. empty-blank f (none-empty f e);
-      none-of-five-atoms = empty-blank ten (none-empty ten refl) ten-within;
+      none-per-copy-blank = λ f e. holds-blank f (none-holds f e);
+      none-of-five-atoms = holds-blank ten (none-holds ten refl) ten-within;
       repeated-index = refl;
       index-past-copy = refl;
       reference-of-8 = refl;

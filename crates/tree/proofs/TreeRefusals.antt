@@ -1,7 +1,7 @@
 -- The refusals of Tree and Report: what each `return` of the tests answers, what input that passes them has, and 13 after them.
 -- Assumes nothing.
 use mathlib.Core.Path.{_≡_, refl, sym, _∙_}
-use mathlib.Core.Bool.{Bool, true, false, true≢false, cond, not, _&&_, _||_, and-eq-true-iff}
+use mathlib.Core.Bool.{Bool, true, false, cond, not, _&&_, _||_, and-eq-true-iff}
 use mathlib.Core.List.{List, [], _∷_}
 use Prim.Native.Nat.{ℕ, zero, suc, _*_, _≤_, _<_}
 use native.Mathlib.Omega.{arith}
@@ -12,7 +12,7 @@ use lib.Ieee.{Float}
 use Rattle.cell.specs.declared.Cell.{Cell}
 use Rattle.cell.specs.Limits.{long, maxAtoms, lengths, counts, bounds, coordinates, validity, limitRefusals, frameRefusals}
 use Rattle.cell.specs.Refusals.{Refusal, firstRefusal}
-use Rattle.cell.proofs.FirstRefusal.{numbered, first-hit, first-skip, first-none, append-hit, append-skip}
+use Rattle.cell.proofs.FirstRefusal.{numbered, first-hit, first-skip, first-none, append-hit, append-skip, neither}
 use Rattle.cell.proofs.FrameRefusals.{frame-none}
 use Rattle.selection.specs.Sound.{copiesIn, soundLists, soundness}
 use Rattle.selection.specs.Input.{inputRefusals}
@@ -36,10 +36,6 @@ first-without n (r ∷ rs) w z e =
     by-test : (b : Bool) → not (eqb (r .number) n) ≡ true → (firstRefusal rs ≡ n → ⊥) → cond b (r .number) (firstRefusal rs) ≡ n → ⊥
     by-test true m f h = eqb-false (r .number) n (not-true (eqb (r .number) n) m) h
     by-test false m f h = f h
-
-neither : (a b : Bool) → (a || b) ≡ false → (a ≡ false) × (b ≡ false)
-neither true b e = absurd (true≢false e)
-neither false b e = (refl, e)
 
 module _ (c : Cell) (solutes waters : List Float) (starts picks centerOrder waterOrder : List ℕ) where
   -- what none of 1, 2, 3, 4, 15, 8 and 7 refuses

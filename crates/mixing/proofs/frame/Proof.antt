@@ -9,7 +9,7 @@ use borrow.Author.Needs.{needs}
 use Rattle.cell.specs.Refusals.{firstRefusal}
 use Rattle.cell.specs.Tables.{over}
 use Rattle.tree.specs.Points.{finiteWaters}
-use Rattle.mixing.specs.Frame.{Frame, Tables, given, lent, kept, startList, pickNumbers, treeIn, isBlank, anyShort, short, limited, empty}
+use Rattle.mixing.specs.Frame.{Frame, Tables, given, lent, kept, startList, pickNumbers, treeIn, isBlank, anyShort, short, limited, blankHolds}
 use Rattle.mixing.proofs.Outcomes.{outcome-limit, outcome-blank, outcome-5, outcome-6, outcome-7}
 use Rattle.mixing.proofs.Tested.{solutes-few, waters-few, indices-few, fine, lists-fit, clusters-fit, orders-fit, worked-outcome, worked-tables, starts-lent, picks-lent, starts-taken, picks-taken}
 use Rattle.mixing.proofs.frame.Statement.{statement}
@@ -37,11 +37,11 @@ picks-counted : (c : tie.After-count) → c .count .result .picks ≡ length (pi
 unfolding kept pickNumbers
 picks-counted c = c .count .ensures .1
 
-blank-tested : (c : tie.After-is-blank) → c .is-blank .result ≡ empty (frame-of (c .before .before .before .before .before .before .before .before .before .before .before .before .before .before .before .before))
-unfolding empty
+blank-tested : (c : tie.After-is-blank) → c .is-blank .result ≡ blankHolds (frame-of (c .before .before .before .before .before .before .before .before .before .before .before .before .before .before .before .before))
+unfolding blankHolds
 blank-tested c = c .is-blank .ensures ∙ ap₂ (isBlank (c .before .before .before .before .before .before .before .before .before .before .before .before .before .before .before .before .args .cell) (c .before .before .before .before .before .before .before .before .before .before .before .before .before .before .before .before .args .solutes .now) (c .before .before .before .before .before .before .before .before .before .before .before .before .before .before .before .before .args .waters .now)) (copies-counted (c .before .before)) (c .before .count-waters .ensures)
 
-not-blank : (c : tie.Else2) → empty (frame-of (c .before .before .before .before .before .before .before .before .before .before .before .before .before .before .before .before .before)) ≡ false
+not-blank : (c : tie.Else2) → blankHolds (frame-of (c .before .before .before .before .before .before .before .before .before .before .before .before .before .before .before .before .before)) ≡ false
 not-blank c = sym (blank-tested (c .before)) ∙ c .if2 .left
 
 few-copies : (c : tie.Else3) → length (kept (frame-of (c .before .before .before .before .before .before .before .before .before .before .before .before .before .before .before .before .before .before .before))) ≤ 4096
