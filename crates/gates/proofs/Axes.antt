@@ -1,7 +1,7 @@
 -- An axis of a tested cell: its extent, turns and images are finite, and images keep the order where turns do. The extent is above
 -- 2 ^ -23 and 2 ^ 17 at most, and a separation of two atoms 2 ^ 21 at most in magnitude. Assumes nothing.
 use mathlib.Core.Path.{_≡_, sym}
-use mathlib.Core.Bool.{Bool, true, false, not, _&&_, true≢false, and-eq-true-iff}
+use mathlib.Core.Bool.{Bool, true, false, not, _&&_, true≢false}
 use mathlib.Core.List.{List}
 use Prim.Native.Nat.{ℕ, _*_, _^_, _≤_, _<_}
 use native.Mathlib.Omega.{arith}
@@ -9,6 +9,7 @@ use lib.Dec.{T, lit≤}
 use lib.Ieee.{Float, nan, inf, fin, binary32, up, down, ofBits, mul, div, lt, le}
 use lib.Ieee.Scale.{finite}
 use borrow.Author.Tests.{not-true}
+use Rattle.numbers.proofs.Tests.{both}
 use Rattle.numbers.proofs.Bounds.{Within, exact-pow, mul-within, plain}
 use Rattle.numbers.proofs.Image.{round-keeps}
 use Rattle.numbers.proofs.Quotients.{within-finite, AtLeast, div-within}
@@ -69,9 +70,6 @@ pub record Axes (e : Vec3) : Type 0 where
   pub on-x : Axis (e .x)
   pub on-y : Axis (e .y)
   pub on-z : Axis (e .z)
-
-both : (a b : Bool) → a && b ≡ true → (a ≡ true) × (b ≡ true)
-both a b = and-eq-true-iff a b .0
 
 -- what is above EPSILON has no minus sign
 valid-plain : (e : Float) → validAxis e ≡ true → T (plain e)

@@ -3,12 +3,12 @@
 -- of l and m, worked out by the code itself, stand for all of them. Assumes nothing.
 use mathlib.Core.Path.{_≡_, refl}
 use mathlib.Core.Logic.{_⊎_, inl, inr}
-use mathlib.Core.Bool.{Bool, true, false, _&&_, cond, and-eq-true-iff}
+use mathlib.Core.Bool.{Bool, true, false, _&&_, cond}
 use Prim.Native.Nat.{ℕ, _^_, _≤_}
 use lib.Dec.{T, lit≤}
 use lib.Ieee.{Float, nan, inf, fin, binary32, ofBits, round, neg, sub, mul, div, lt, le}
 use lib.Ieee.Scale.{finite}
-use Rattle.numbers.proofs.Tests.{holds}
+use Rattle.numbers.proofs.Tests.{holds, both}
 use Rattle.numbers.proofs.Bounds.{Within, exact-pow, sub-within, within-more}
 use Rattle.numbers.proofs.Quotients.{within-finite}
 use Rattle.numbers.proofs.Signs.{neg-finite}
@@ -26,9 +26,6 @@ abbrev pub Apart : Float → Float → Type 0
 Apart d e = T (le (mul binary32 (imageAxis d e) (imageAxis d e)) cutoff2) → ⊥
 
 -- ---- between two ends
-both : (a b : Bool) → a && b ≡ true → (a ≡ true) × (b ≡ true)
-both a b = and-eq-true-iff a b .0
-
 pub between : (least most l m e d : Float) → T (finite least) → T (finite most) → Axis e → Within (2 ^ 21) l → Within (2 ^ 21) m → Within (2 ^ 21) d → holdsAt least most l m e ≡ true
     → T (le (turnsOf d e) least) ⊎ T (le most (turnsOf d e)) → T (le l d) → T (le d m) → Apart d e
 unfolding holdsAt clearRight clearLeft

@@ -3,7 +3,7 @@
 use mathlib.Core.Path.{_≡_, sym, ap, _∙_}
 use mathlib.Core.Logic.{inl, inr}
 use Prim.Native.Nat.{ℕ, suc, _+_, _*_, _/_, _%_, _≤_, _<_}
-use native.Mathlib.Nat.{le-trans, le-antisymm, le-of-eq, lt-of-lt-of-le, zero-lt-suc, eq-or-lt-of-le, one-mul, suc-mul, mul-comm, mul-pos, mul-le-mul-right, le-of-mul-le-mul-right, lt-of-mul-lt-mul-right, div-eq-of-lt, div-add-mod', div-mul-le-self, lt-div-mul-add, div-le-of-le-mul, div-lt-iff-lt-mul, div-div-eq-div-mul, add-mul-div-right, mul-mod-left}
+use native.Mathlib.Nat.{le-trans, le-antisymm, le-of-eq, lt-of-lt-of-le, zero-lt-suc, eq-or-lt-of-le, one-mul, suc-mul, mul-comm, mul-pos, mul-le-mul-right, le-of-mul-le-mul-right, lt-of-mul-lt-mul-right, div-eq-of-lt, div-add-mod', div-mul-le-self, lt-div-mul-add, div-le-of-le-mul, le-div-iff-mul-le, div-lt-iff-lt-mul, div-div-eq-div-mul, add-mul-div-right, mul-mod-left}
 use native.Mathlib.Omega.{arith}
 use mathlib.Core.Bool.{Bool, true, false, cond}
 use lib.Dec.{T, eqb, eqb→eq}
@@ -77,6 +77,16 @@ half-none a c h = div-eq-of-lt (below a c h)
   where
     below : (x y : ℕ) → x * 2 < y → 2 * x + y < 2 * y
     below x y k = omega arith
+
+-- from a half up to three halves it is 1
+pub half-unit : (a c : ℕ) → 0 < c → c ≤ a * 2 → a * 2 < 3 * c → halfUp a c ≡ 1
+half-unit a c C l h =
+    let u : halfUp a c < 2 = div-lt-iff-lt-mul (two-pos c C) .1 (omega arith) in
+    let d : 1 ≤ halfUp a c = le-div-iff-mul-le (two-pos c C) .1 (omega arith) in
+    only (halfUp a c) d u
+  where
+    only : (x : ℕ) → 1 ≤ x → x < 2 → x ≡ 1
+    only x d u = omega arith
 
 -- from the whole part of twice the fraction
 pub half-twice : (a c : ℕ) → 0 < c → (2 * a / c + 1) / 2 ≡ halfUp a c

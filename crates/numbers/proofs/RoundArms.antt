@@ -1,22 +1,25 @@
--- The arms of `round_any32` and `round32`: the whole part of twice the size, and one more, halved; and below a half, a zero. Assumes nothing.
-use mathlib.Core.Path.{_≡_, sym, ap, _∙_}
-use Prim.Native.Nat.{ℕ, suc, _+_, _*_, _/_, _^_, _<_}
-use native.Mathlib.Nat.{le-of-eq, lt-of-lt-of-le, lt-of-le-of-lt, zero-lt-suc, le-add-right, two-mul, mul-assoc, mul-left-comm, mul-right-comm, mul-pos, mul-lt-mul-of-pos-left, mul-lt-mul-of-pos-right, lt-of-mul-lt-mul-right, pow-succ'}
+-- The arms of `round_any32` and `round32`: the whole part of twice the size, and one more, halved; and below three halves, -1, 0 or 1.
+-- Assumes nothing.
+use mathlib.Core.Path.{_≡_, refl, sym, ap, _∙_}
+use Prim.Native.Nat.{ℕ, suc, _+_, _*_, _/_, _^_, _≤_, _<_}
+use native.Mathlib.Nat.{le-of-eq, lt-of-not-le, lt-of-lt-of-le, lt-of-le-of-lt, zero-lt-suc, le-add-right, two-mul, mul-assoc, mul-left-comm, mul-right-comm, mul-pos, mul-lt-mul-of-pos-left, mul-lt-mul-of-pos-right, lt-of-mul-lt-mul-right, pow-succ'}
 use native.Mathlib.Omega.{arith}
-use mathlib.Core.Bool.{true, false}
+use native.Mathlib.Decide.{decLe}
+use mathlib.Core.Bool.{Bool, true, false, cond, not, _||_}
 use lib.IntN.{ℤ, pos, negsuc}
-use lib.Dec.{T, ltb→lt, lit≤}
+use lib.Dec.{T, ltb, ltb→lt, lit≤}
 use lib.Pow.{pow-pos}
-use lib.Ieee.{Float, nan, inf, fin, binary32, up, down, neg, sum, add, mul, ofInt, lt, fits}
+use lib.Ieee.{Float, nan, inf, fin, binary32, up, down, round, neg, sum, add, sub, mul, ofInt, lt, fits}
 use lib.Ieee.Fits.{up-pos, down-pos}
 use lib.Ieee.Exact.{HasValue, round-exact}
 use lib.Ieee.Nearest.{div-same}
 use lib.Ieee.Positive.{num, den, den-pos, positive, positive-of-value, value→cross}
+use borrow.Author.Tests.{lt-ltb, le-ltb}
 use Rattle.numbers.specs.Whole.{halfUp, roundOf}
-use Rattle.numbers.proofs.Fractions.{half-none, half-twice}
+use Rattle.numbers.proofs.Fractions.{half-none, half-unit, half-twice}
 use Rattle.numbers.proofs.Held.{fits-digits, fits-grid}
 use Rattle.numbers.proofs.SizeTests.{zero32, Small, part, Large, Nothing}
-use Rattle.numbers.proofs.WholeSizes.{roundSize, round-rounds, large-stays, nothing-stays, arm-plus, arm-minus, arm-zero}
+use Rattle.numbers.proofs.WholeSizes.{roundSize, round-rounds, large-stays, nothing-stays, times-zero, arm-plus, arm-minus}
 
 -- ---- twice a is exact, and its whole part says it all
 small-of : (k : ℕ) (y : Float) (a c : ℕ) → HasValue y false a c → 0 < a → 0 < c → a < 2 ^ k * c → Small k y
@@ -88,18 +91,48 @@ round-large = large-stays binary32 roundSize (roundOf binary32) (round-rounds bi
 pub round-nothing : (x : Float) → T (fits binary32 x) → Nothing x → x ≡ roundOf binary32 x
 round-nothing = nothing-stays binary32 roundSize (roundOf binary32) (round-rounds binary32)
 
--- ---- below a half
+-- ---- below three halves: the difference of the units that two tests give, taken from a zero with x's sign
 abbrev pub half32 : Float
 half32 = fin false 1 (negsuc 0)
 
-pub half-zero : (x : Float) → T (lt x half32) → T (lt (neg half32) x) → mul binary32 x zero32 ≡ roundOf binary32 x
-unfolding lt neg
-half-zero nan a b = absurd a
-half-zero (inf true) a b = absurd b
-half-zero (inf false) a b = absurd a
-half-zero (fin true m e) a b =
-    let l : m * up e * 2 < 1 * 1 * down e = ltb→lt (m * up e * 2) (1 * 1 * down e) b in
-    arm-zero binary32 roundSize (roundOf binary32) (round-rounds binary32) true m e (half-none (m * up e) (down e) (omega arith))
-half-zero (fin false m e) a b =
-    let l : m * up e * 2 < 1 * 1 * down e = ltb→lt (m * up e * 2) (1 * 1 * down e) a in
-    arm-zero binary32 roundSize (roundOf binary32) (round-rounds binary32) false m e (half-none (m * up e) (down e) (omega arith))
+abbrev pub threeHalves32 : Float
+threeHalves32 = fin false 3 (negsuc 0)
+
+abbrev pub unit32 : Bool → Float
+unit32 t = cond t (fin false 1 (pos 0)) zero32
+
+abbrev pub lessUnits : Float → Bool → Bool → Float
+lessUnits z t u = sub binary32 z (sub binary32 (unit32 t) (unit32 u))
+
+-- b says that the size is below a half; the other test holds
+units-at : (s b : Bool) → lessUnits (round binary32 s 0 1) (s || b) (not s || b) ≡ round binary32 s (cond b 0 1) 1
+unfolding sub add sum neg round
+units-at true true = refl
+units-at true false = refl
+units-at false true = refl
+units-at false false = refl
+
+-- a / c below three halves, its double compared with k, which is c
+size-unit : (a c k : ℕ) → 0 < c → k ≡ c → a * 2 < 3 * c → halfUp a c ≡ cond (ltb (a * 2) k) 0 1
+size-unit a c k C e h = go (decLe c (a * 2))
+  where
+    go : Dec (c ≤ a * 2) → halfUp a c ≡ cond (ltb (a * 2) k) 0 1
+    go (yes l) = rw (le-ltb (a * 2) k (omega arith)) (half-unit a c C l h)
+    go (no n) = rw (lt-ltb (a * 2) k (omega (arith, lt-of-not-le n))) (half-none a c (omega (arith, lt-of-not-le n)))
+
+pub units-round : (x : Float) → T (lt x threeHalves32) → T (lt (neg threeHalves32) x)
+    → lessUnits (mul binary32 x zero32) (lt x half32) (lt (neg half32) x) ≡ roundOf binary32 x
+unfolding lt neg roundOf
+units-round nan a b = absurd a
+units-round (inf true) a b = absurd b
+units-round (inf false) a b = absurd a
+units-round (fin true m e) a b =
+    let l : m * up e * 2 < 3 * 1 * down e = ltb→lt (m * up e * 2) (3 * 1 * down e) b in
+    let p : 0 < m * up e * 2 + 1 * 1 * down e = omega (arith, down-pos e) in
+    rw (times-zero binary32 true m e, lt-ltb 0 (m * up e * 2 + 1 * 1 * down e) p, size-unit (m * up e) (down e) (1 * 1 * down e) (down-pos e) (omega arith) (omega arith))
+    (units-at true (ltb (m * up e * 2) (1 * 1 * down e)))
+units-round (fin false m e) a b =
+    let l : m * up e * 2 < 3 * 1 * down e = ltb→lt (m * up e * 2) (3 * 1 * down e) a in
+    let p : 0 < 1 * 1 * down e + m * up e * 2 = omega (arith, down-pos e) in
+    rw (times-zero binary32 false m e, lt-ltb 0 (1 * 1 * down e + m * up e * 2) p, size-unit (m * up e) (down e) (1 * 1 * down e) (down-pos e) (omega arith) (omega arith))
+    (units-at false (ltb (m * up e * 2) (1 * 1 * down e)))

@@ -67,6 +67,13 @@ big-whole f s m k h g =
     let b : 2 ^ (prec f - 1) * 2 ^ 1 ≤ 2 ^ (prec f - 1) * 2 ^ suc k = mul-le-mul-left (2 ^ (prec f - 1)) (pow-mono {i = 1} {j = suc k} (zero-lt-suc k)) in
     omega arith
 
+-- a value times +0 is a zero with its sign
+pub times-zero : (f : Format) (s : Bool) (m : ℕ) (e : ℤ) → mul f (fin s m e) zero32 ≡ round f s 0 1
+unfolding mul
+times-zero f s m e =
+    ap (λ (b : Bool). round f b (m * up e * (0 * 1)) (down e * 1)) (same-sign s)
+    ∙ round-same f s (m * up e * (0 * 1)) (down e * 1) 0 1 (le-trans (down-pos e) (le-of-eq (sym (mul-one (down e))))) (zero-lt-suc 0) (omega arith)
+
 module _ (f : Format) (σ : Bool → ℕ → ℕ → ℕ) (g : Float → Float) (r : Rounds f σ g) where
   -- ---- a whole number stays
   whole-stays : (s : Bool) (m k : ℕ) → T (fits f (fin s m (pos k))) → fin s m (pos k) ≡ g (fin s m (pos k))
@@ -109,12 +116,7 @@ module _ (f : Format) (σ : Bool → ℕ → ℕ → ℕ) (g : Float → Float) 
 
   -- x * 0.0 is a zero with x's sign, and so is the result where σ is 0
   pub arm-zero : (s : Bool) (m : ℕ) (e : ℤ) → σ s (m * up e) (down e) ≡ 0 → mul f (fin s m e) zero32 ≡ g (fin s m e)
-  unfolding mul
-  arm-zero s m e h =
-      ap (λ (b : Bool). round f b (m * up e * (0 * 1)) (down e * 1)) (same-sign s)
-      ∙ round-same f s (m * up e * (0 * 1)) (down e * 1) 0 1 (le-trans (down-pos e) (le-of-eq (sym (mul-one (down e))))) (zero-lt-suc 0) (omega arith)
-      ∙ ap (λ (n : ℕ). round f s n 1) (sym h)
-      ∙ sym (r .at-fin s m e)
+  arm-zero s m e h = times-zero f s m e ∙ ap (λ (n : ℕ). round f s n 1) (sym h) ∙ sym (r .at-fin s m e)
 
   -- ---- where σ keeps the order, so does g
   pub rounds-mono : ((s : Bool) (a c : ℕ) (t : Bool) (b d : ℕ) → 0 < c → 0 < d → Below s a c t b d → Below s (σ s a c) 1 t (σ t b d) 1)

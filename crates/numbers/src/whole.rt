@@ -4,6 +4,7 @@
 use crate::class::from_bits32;
 use crate::class::to_bits32;
 ghost use mathlib.Core.Path.{_≡_};
+ghost use mathlib.Core.Bool.{cond};
 ghost use lib.Ieee.{binary32, ofBits, toBits};
 ghost use Rattle.numbers.specs.Whole.{floorOf, roundOf};
 
@@ -65,15 +66,21 @@ fn round_any32(x: f32) -> f32
     x
 }
 
-// The whole number nearest to x, a half away from zero.
+// 1 where t holds, else 0.
+fn unit(t: bool) -> f32
+    ensures { λ r. ⌜ r ≡ cond t (ofBits binary32 0x3f80_0000) (ofBits binary32 0) ⌝ }
+{
+    if t { 1.0 } else { 0.0 }
+}
+
+// The whole number nearest to x, a half away from zero. From -1.5 to 1.5 two comparisons give -1, 0 or 1: a branch at a half would be
+// guessed wrong on every other separation of a minimum image.
 pub fn round32(x: f32) -> f32
     ensures { λ r. ⌜ r ≡ roundOf binary32 x ⌝ }
 {
-    if x < 0.5 {
-        if x > -0.5 {
-            return x * 0.0; // nearer to 0 than a half
-        }
-        return round_any32(x);
+    if (x < 1.5) & (x > -1.5) {
+        // x * 0.0 is a zero with x's sign
+        return x * 0.0 - (unit(x < 0.5) - unit(x > -0.5));
     }
     round_any32(x)
 }

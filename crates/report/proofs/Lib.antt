@@ -1,5 +1,7 @@
 -- Occupancies: what one is where water is seen.
 pub mod Occupancies
+-- Whether a water is in a leaf's shell, an axis at a time.
+pub mod ShellAxes
 -- The waters in a leaf's shell, counted one after the other.
 pub mod ShellCount
 -- The leaf table, node by node.

@@ -5,7 +5,8 @@ ghost use mathlib.Core.Bool.{true, false};
 ghost use mathlib.Core.List.{[]};
 ghost use Prim.Native.Nat.{_+_, _*_, _/_, _≤_, _<_};
 ghost use lib.ListN.{length};
-ghost use lib.Ieee.{binary32, toBits};
+ghost use lib.Ieee.{binary32, sub, toBits};
+ghost use Rattle.cell.specs.Cell.{imageAxis};
 ghost use Rattle.report.specs.Leaf.{smaller as smallerOf, larger as largerOf, halfSide, withinHalf, inShell, shellFrom, expanded as expandedOf, roomVolume, densityOf, occupancyOf, occupancyWord, referenceLeaves, referenceVolume, partitionScore};
 use cell::Cell;
 use cell::EPSILON;
@@ -51,14 +52,26 @@ fn within(d: f32, h: f32) -> bool
     (d <= h) & (-h <= d)
 }
 
-// Whether a wrapped water is in the shell of a box: its minimum image from the box center is within half on all axes.
+// One axis: whether the minimum image from p, a center coordinate, to q is within half of the box's side with its shell.
+fn axis_in_shell(p: f32, q: f32, side: f32, whole: f32) -> bool
+    ensures { λ r. ⌜ r ≡ withinHalf (imageAxis (sub binary32 q p) whole) (halfSide side whole) ⌝ }
+{
+    within(cell::image_axis(q - p, whole), half_side(side, whole))
+}
+
+// Whether a wrapped water is in the shell of a box: its minimum image from the box center is within half on all axes. Most waters are
+// outside on the first axis, and then no other is looked at.
 fn in_shell(cell: Cell, b: OctreeBounds, w: Vec3) -> bool
     ensures { λ r. ⌜ r ≡ inShell cell b w ⌝ }
 {
     let e = cell::extent(cell);
-    let d = cell::min_image(e, cell::separation(b.center, w));
-    within(d.x, half_side(b.extent.x, e.x))
-        & (within(d.y, half_side(b.extent.y, e.y)) & within(d.z, half_side(b.extent.z, e.z)))
+    if !axis_in_shell(b.center.x, w.x, b.extent.x, e.x) {
+        return false;
+    }
+    if !axis_in_shell(b.center.y, w.y, b.extent.y, e.y) {
+        return false;
+    }
+    axis_in_shell(b.center.z, w.z, b.extent.z, e.z)
 }
 
 // How many of the first m waters are in the shell of a box.

@@ -11,6 +11,7 @@ use lib.ListN.{length, getD, drop, length-drop, drop-of-length-le}
 use lib.Seq.{drop-cons}
 use lib.Ieee.{Float}
 use borrow.Author.Tests.{lt-ltb, le-ltb, ltb-true, le-leb, leb-true, eq-eqb, eqb-true}
+use Rattle.numbers.proofs.Tests.{both}
 use Rattle.cell.specs.Limits.{maxCopies, maxPicks}
 use Rattle.selection.specs.Selection.{finiteAtom}
 use Rattle.selection.specs.Sound.{rises, allFinite, copiesIn, soundStarts, soundLists}
@@ -76,9 +77,6 @@ starts-sound starts n some few first up last short =
     rw (starts-rest starts n some few first up, eq-eqb (getD starts (copiesIn starts) 0) n last, le-leb n maxPicks short)
 
 -- ---- the tests, number by number
-both : (a b : Bool) → (a && b) ≡ true → (a ≡ true) × (b ≡ true)
-both a b = and-eq-true-iff a b .0
-
 rises-at : (l : List ℕ) → rises l ≡ true → (i : ℕ) → suc i < length l → getD l i 0 < getD l (suc i) 0
 unfolding rises
 rises-at [] r i h = absurd (omega arith)

@@ -1,14 +1,23 @@
--- `numbers::whole::round32` meets its contract. Below a half the result is a zero with x's sign, which x * 0.0 is. Assumes nothing.
+-- `numbers::whole::round32` meets its contract. Below three halves the two tests give the result (`units-round`). Assumes nothing.
 use borrow.Author.Needs.{needs}
-use lib.Ieee.{neg, ofBits}
-use Rattle.numbers.proofs.Tests.{holds}
-use Rattle.numbers.proofs.RoundArms.{half-zero}
+use lib.Ieee.{neg, lt, ofBits}
+use Rattle.numbers.proofs.Tests.{holds, both}
+use Rattle.numbers.proofs.RoundArms.{threeHalves32, units-round}
 use Rattle.numbers.proofs.whole.round32.Statement.{statement}
 use Rattle.numbers.proofs.whole.round32.Tie as tie
 
+unit-requires : tie.Need-unit-requires
+unit-requires c κs = search needs
+
+unit-requires-2 : tie.Need-unit-requires-2
+unit-requires-2 c κs = search needs
+
 returns : tie.Need-returns
 unfolding ofBits neg
-returns c = half-zero (c .before .before .args .x) (holds (c .before .if1 .taken)) (holds (c .if2 .taken))
+returns c =
+    let x = c .before .before .before .args .x in
+    let t = both (lt x threeHalves32) (lt (neg threeHalves32) x) (c .before .before .if1 .taken) in
+    rw (c .before .unit .ensures, c .unit2 .ensures) (units-round x (holds (t .0)) (holds (t .1)))
 
 round-any32-requires : tie.Need-round-any32-requires
 round-any32-requires c κs = search needs
@@ -16,11 +25,5 @@ round-any32-requires c κs = search needs
 returns-2 : tie.Need-returns-2
 returns-2 c = search needs
 
-round-any32-requires-2 : tie.Need-round-any32-requires-2
-round-any32-requires-2 c κs = search needs
-
-returns-3 : tie.Need-returns-3
-returns-3 c = search needs
-
 pub round32-spec : {M : Type 1} → statement M
-round32-spec = tie.close (tie.spec returns round-any32-requires returns-2 round-any32-requires-2 returns-3)
+round32-spec = tie.close (tie.spec unit-requires unit-requires-2 returns round-any32-requires returns-2)
