@@ -50,7 +50,7 @@ pub mod Monotone
 pub mod Image
 -- the arms of `floor_any32` and `floor32`
 pub mod FloorArms
--- the arms of `round_any32` and `round32`
+-- the arms of `round_size32` and `round32`
 pub mod RoundArms
 -- ---- bit patterns
 -- which patterns are NaNs

@@ -1,4 +1,4 @@
--- The arms of `round_any32` and `round32`: the whole part of twice the size, and one more, halved; and below three halves, -1, 0 or 1.
+-- The arms of `round_size32` and `round32`: the whole part of twice the size, and one more, halved; and below three halves, -1, 0 or 1.
 -- Assumes nothing.
 use mathlib.Core.Path.{_≡_, refl, sym, ap, _∙_}
 use Prim.Native.Nat.{ℕ, suc, _+_, _*_, _/_, _^_, _≤_, _<_}
@@ -19,7 +19,7 @@ use Rattle.numbers.specs.Whole.{halfUp, roundOf}
 use Rattle.numbers.proofs.Fractions.{half-none, half-unit, half-twice}
 use Rattle.numbers.proofs.Held.{fits-digits, fits-grid}
 use Rattle.numbers.proofs.SizeTests.{zero32, Small, part, Large, Nothing}
-use Rattle.numbers.proofs.WholeSizes.{roundSize, round-rounds, large-stays, nothing-stays, times-zero, arm-plus, arm-minus}
+use Rattle.numbers.proofs.WholeSizes.{roundSize, round-rounds, large-stays, nothing-stays, times-zero, arm-plus}
 
 -- ---- twice a is exact, and its whole part says it all
 small-of : (k : ℕ) (y : Float) (a c : ℕ) → HasValue y false a c → 0 < a → 0 < c → a < 2 ^ k * c → Small k y
@@ -77,13 +77,9 @@ doubled (fin false m e) h s =
           ∙ half-twice (m * up e) (down e) (down-pos e);
     }
 
--- ---- above zero, below zero, from 2 ^ 23 on, and at zero
+-- ---- above zero, from 2 ^ 23 on, and at zero
 pub round-plus : (x : Float) (n : ℕ) → T (positive x) → n ≡ halfUp (num x) (den x) → ofInt binary32 (pos n) ≡ roundOf binary32 x
 round-plus = arm-plus binary32 roundSize (roundOf binary32) (round-rounds binary32)
-
-pub round-minus : (x : Float) (n : ℕ) → T (positive (neg x)) → n ≡ halfUp (num (neg x)) (den (neg x))
-    → neg (ofInt binary32 (pos n)) ≡ roundOf binary32 x
-round-minus = arm-minus binary32 roundSize (roundOf binary32) (round-rounds binary32)
 
 pub round-large : (x : Float) → T (fits binary32 x) → Large 23 x → x ≡ roundOf binary32 x
 round-large = large-stays binary32 roundSize (roundOf binary32) (round-rounds binary32)

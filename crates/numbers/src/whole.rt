@@ -4,8 +4,8 @@
 use crate::class::from_bits32;
 use crate::class::to_bits32;
 ghost use mathlib.Core.Path.{_≡_};
-ghost use mathlib.Core.Bool.{cond};
-ghost use lib.Ieee.{binary32, ofBits, toBits};
+ghost use mathlib.Core.Bool.{cond, false};
+ghost use lib.Ieee.{binary32, lt, ofBits, toBits};
 ghost use Rattle.numbers.specs.Whole.{floorOf, roundOf};
 
 fn floor_any32(x: f32) -> f32
@@ -45,7 +45,9 @@ pub fn floor32(x: f32) -> f32
     floor_any32(x)
 }
 
-fn round_any32(x: f32) -> f32
+// Rounds what is not below zero.
+fn round_size32(x: f32) -> f32
+    requires { ⌜ lt x (ofBits binary32 0) ≡ false ⌝ }
     ensures { λ r. ⌜ r ≡ roundOf binary32 x ⌝ }
 {
     if x > 0.0 {
@@ -55,15 +57,18 @@ fn round_any32(x: f32) -> f32
         }
         return x;
     }
-    if x < 0.0 {
-        if x > -8388608.0 {
-            let a = -x;
-            let twice = std::num::truncating_f32_to_u64(a + a);
-            return -(((twice + 1) >> 1) as f32);
-        }
-        return x;
-    }
     x
+}
+
+// Rounding is odd: a number below zero goes by its opposite. The compiler does not copy a function that calls itself into the loops of its
+// callers, which seldom need this one (round32).
+fn round_any32(x: f32) -> f32
+    ensures { λ r. ⌜ r ≡ roundOf binary32 x ⌝ }
+{
+    if x < 0.0 {
+        return -round_any32(-x);
+    }
+    round_size32(x)
 }
 
 // 1 where t holds, else 0.
