@@ -11,6 +11,7 @@ mod library;
 mod program;
 mod reduce;
 mod rng;
+mod sides;
 mod signals;
 mod stats;
 
