@@ -8,6 +8,8 @@ const SIZES: [(usize, usize); 5] = [(512, 1), (4_096, 1), (512, 16), (4_096, 4),
 const SECONDS: f64 = 120.0;
 /// Milliseconds of one run at least: a short call is repeated in it.
 const LEAST: f64 = 20.0;
+/// Milliseconds of whole frames in one run of the scan inside of them, which as a difference wants more.
+const FRAMES: f64 = 500.0;
 
 #[repr(C)]
 struct Time {
@@ -110,7 +112,36 @@ pub fn bench(seed: u64, runs: usize, most_picks: usize) {
 fn one(line: &Line, f: &Frame) {
     let original = Original::new(f);
     let mut library = Library::new(f, &original);
-    for work in [Work::Select, Work::Scan, Work::Dispersion, Work::Tree, Work::Report, Work::Frame] {
+    line.both(Work::Select, &original, &mut library);
+    scans(line, f, &original, &mut library);
+    for work in [Work::Dispersion, Work::Tree, Work::Report, Work::Frame] {
         line.both(work, &original, &mut library);
     }
+}
+
+/// The original's two nested loops beside the library's two scans: Open, every Row and Close; and the scan inside the whole frame.
+fn scans(line: &Line, f: &Frame, original: &Original, library: &mut Library) {
+    let few = f.with_one_water();
+    let mut inside = Library::new(&few, &Original::new(&few));
+    let rounds = (FRAMES / once(|| _ = inside.run(Work::Frame))).ceil() as usize;
+    let (mut expected, mut found) = ([0; 3], [0; 3]);
+    let ([rust, rows, framed], runs) = line.medians([
+        &mut || time(|| expected = original.run(Work::Scan)),
+        &mut || time(|| found = library.run(Work::Scan)),
+        &mut || median((0..rounds).map(|_| scan_inside(&mut inside)).collect()),
+    ]);
+    assert_eq!(expected, found, "the scans agree");
+    assert_eq!(expected, inside.run(Work::Frame), "the scan in the frame agrees");
+    line.print("scan", rust, rows, runs);
+    line.print("scan in frame", rust, framed, runs);
+}
+
+/// Milliseconds of the scan inside the whole frame, which no call makes alone: what the frame's time is over Select's, Dispersion's
+/// and Report's. The frame has one water, so that Report is small. Dispersion and Report test their input when they are called, and
+/// inside of the frame they do not, so the time of these tests is not taken off.
+fn scan_inside(library: &mut Library) -> f64 {
+    let works = [Work::Frame, Work::Select, Work::Dispersion, Work::Report];
+    let [frame, select, dispersion, report] = works.map(|work| once(|| _ = library.run(work)));
+    let tests = once(|| library.tests());
+    frame - select - (dispersion - tests) - (report - tests)
 }

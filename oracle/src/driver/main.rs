@@ -90,7 +90,7 @@ fn main() {
         Some("bench") => {
             let o = options(&words[1..]);
             use stats::Call::*;
-            if ![Select, Open, Row, Close, Dispersion, Tree, Report, Frame].into_iter().all(library::present) {
+            if ![Select, Open, Row, Close, Centers, Dispersion, Tree, Report, Frame].into_iter().all(library::present) {
                 usage("the library does not have every call of the benchmark");
             }
             bench::bench(o.seed, o.runs, o.most_picks);

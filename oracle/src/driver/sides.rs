@@ -63,6 +63,12 @@ impl Frame {
         let waters = (0..3 * waters).map(|_| rng.float(0.0, side).to_bits()).collect();
         Frame { cell: [0.0, 0.0, 0.0, side, side, side], copies, per, solutes, waters }
     }
+
+    /// The same copies in the same cell, with the first water alone.
+    pub fn with_one_water(&self) -> Frame {
+        let (solutes, waters) = (self.solutes.clone(), self.waters[..3].to_vec());
+        Frame { solutes, waters, ..*self }
+    }
 }
 
 fn points(bits: &[u32]) -> Vec<Vec3> {
@@ -172,6 +178,13 @@ impl<'a> Library<'a> {
             Work::Report => report(&l, t),
             Work::Frame => whole(&l, f.per, t),
         }
+    }
+
+    /// The tests of solutes, cell and pick lists alone: Centers refuses a table with no room after them.
+    pub fn tests(&mut self) {
+        let Library { frame: f, starts, picks, .. } = self;
+        let l = Lists { cell: f.cell, solutes: &f.solutes, waters: &f.waters, starts, picks };
+        assert_eq!(library::centers(&l, &mut Table::new(&[])), 7);
     }
 }
 
