@@ -140,8 +140,7 @@ fn scans(line: &Line, f: &Frame, original: &Original, library: &mut Library) {
 /// and Report's. The frame has one water, so that Report is small. Dispersion and Report test their input when they are called, and
 /// inside of the frame they do not, so the time of these tests is not taken off.
 fn scan_inside(library: &mut Library) -> f64 {
-    let works = [Work::Frame, Work::Select, Work::Dispersion, Work::Report];
-    let [frame, select, dispersion, report] = works.map(|work| once(|| _ = library.run(work)));
-    let tests = once(|| library.tests());
+    let works = [Work::Frame, Work::Select, Work::Dispersion, Work::Report, Work::Tests];
+    let [frame, select, dispersion, report, tests] = works.map(|work| once(|| _ = library.run(work)));
     frame - select - (dispersion - tests) - (report - tests)
 }

@@ -1,10 +1,12 @@
-//! The driver: `oracle check` compares the library with the original, `oracle bench` times the two side by side.
-//! It is run by the scripts `run`, `bench` and `selftest`, which build it.
+//! The driver: `oracle check` compares the library with the original, `oracle bench` times the two side by side,
+//! `oracle counts CALL COPIES WATERS SIDE` makes one call for a count of its instructions.
+//! It is run by the scripts `run`, `bench`, `counts` and `selftest`, which build it.
 
 mod bench;
 mod blocks;
 mod case;
 mod check;
+mod counts;
 mod examples;
 mod frames;
 mod library;
@@ -89,20 +91,33 @@ fn main() {
         Some("check") => compare(&options(&words[1..])),
         Some("bench") => {
             let o = options(&words[1..]);
-            use stats::Call::*;
-            if ![Select, Open, Row, Close, Centers, Dispersion, Tree, Report, Frame].into_iter().all(library::present) {
-                usage("the library does not have every call of the benchmark");
-            }
+            every_call();
             bench::bench(o.seed, o.runs, o.most_picks);
+        }
+        Some("counts") => {
+            every_call();
+            count(&words[1..]).unwrap_or_else(|| usage("counts CALL COPIES WATERS SIDE: see oracle/counts"));
         }
         #[cfg(mock)]
         Some("faults") => mock::FAULTS.iter().for_each(|f| println!("{f}")),
-        _ => usage("the first word is check or bench"),
+        _ => usage("the first word is check, bench or counts"),
     };
     let done = std::thread::Builder::new().stack_size(64 << 20).spawn(run).unwrap().join();
     if done.is_err() {
         exit(3);
     }
+}
+
+fn every_call() {
+    use stats::Call::*;
+    if ![Select, Open, Row, Close, Centers, Dispersion, Tree, Report, Frame].into_iter().all(library::present) {
+        usage("the library does not have every call of the benchmark");
+    }
+}
+
+fn count(words: &[String]) -> Option<()> {
+    let [call, copies, waters, side, rest @ ..] = words else { return None };
+    counts::counts(sides::Work::named(call)?, copies.parse().ok()?, waters.parse().ok()?, side, options(rest).seed)
 }
 
 /// Runs the case, and at a difference reduces it, prints it and ends the program.

@@ -1,5 +1,5 @@
 //! One frame in a box of water, ready for each call on either side: the original's functions, and the library's calls over tables of
-//! the lengths that they need. Used by `bench`.
+//! the lengths that they need. Used by `bench` and `counts`.
 
 use crate::library::{self, FrameTables, Lists, Table, TreeTables};
 use crate::rng::Rng;
@@ -21,9 +21,16 @@ pub enum Work {
     Tree,
     Report,
     Frame,
+    /// The library's tests of solutes, cell and pick lists alone: Centers refuses a table with no room after them.
+    Tests,
 }
 
 impl Work {
+    pub fn named(name: &str) -> Option<Work> {
+        use Work::*;
+        [Select, Scan, Dispersion, Tree, Report, Frame, Tests].into_iter().find(|w| w.name() == name)
+    }
+
     pub fn name(self) -> &'static str {
         match self {
             Work::Select => "select",
@@ -32,12 +39,13 @@ impl Work {
             Work::Tree => "tree",
             Work::Report => "report",
             Work::Frame => "frame",
+            Work::Tests => "tests",
         }
     }
 }
 
 /// What both sides should answer alike: the first words of the answer, zeros where there are fewer. Report has none, as the original
-/// goes on to a score of its own.
+/// goes on to a score of its own, and the tests, which the original does not make.
 pub type Words = [u32; 3];
 
 pub struct Frame {
@@ -103,6 +111,7 @@ impl Original {
                 [0; 3]
             }
             Work::Frame => self.frame(),
+            Work::Tests => [0; 3],
         }
     }
 
@@ -177,14 +186,11 @@ impl<'a> Library<'a> {
             Work::Tree => tree(&l, t),
             Work::Report => report(&l, t),
             Work::Frame => whole(&l, f.per, t),
+            Work::Tests => {
+                assert_eq!(library::centers(&l, &mut Table::new(&[])), 7);
+                [0; 3]
+            }
         }
-    }
-
-    /// The tests of solutes, cell and pick lists alone: Centers refuses a table with no room after them.
-    pub fn tests(&mut self) {
-        let Library { frame: f, starts, picks, .. } = self;
-        let l = Lists { cell: f.cell, solutes: &f.solutes, waters: &f.waters, starts, picks };
-        assert_eq!(library::centers(&l, &mut Table::new(&[])), 7);
     }
 }
 
