@@ -8,8 +8,9 @@ const SIZES: [(usize, usize); 5] = [(512, 1), (4_096, 1), (512, 16), (4_096, 4),
 const SECONDS: f64 = 120.0;
 /// Milliseconds of one run at least: a short call is repeated in it.
 const LEAST: f64 = 20.0;
-/// Milliseconds of whole frames in one run of the scan inside of them, which as a difference wants more.
-const FRAMES: f64 = 500.0;
+/// Milliseconds of whole frames in one run of the scan inside of them, which as a difference wants more; and how many at most.
+const FRAMES: f64 = 2_000.0;
+const MOST_FRAMES: f64 = 100.0;
 
 #[repr(C)]
 struct Time {
@@ -123,7 +124,7 @@ fn one(line: &Line, f: &Frame) {
 fn scans(line: &Line, f: &Frame, original: &Original, library: &mut Library) {
     let few = f.with_one_water();
     let mut inside = Library::new(&few, &Original::new(&few));
-    let rounds = (FRAMES / once(|| _ = inside.run(Work::Frame))).ceil() as usize;
+    let rounds = (FRAMES / once(|| _ = inside.run(Work::Frame))).ceil().min(MOST_FRAMES) as usize;
     let (mut expected, mut found) = ([0; 3], [0; 3]);
     let ([rust, rows, framed], runs) = line.medians([
         &mut || time(|| expected = original.run(Work::Scan)),
