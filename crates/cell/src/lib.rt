@@ -1,9 +1,12 @@
 // The cell of a frame and the geometry in it (document 01, 'Cell'): extent, validity, wrap, minimum image, squared
 // distance, volume. Lengths are in angstrom. Every f32 operation rounds once, left to right.
 ghost use mathlib.Core.Path.{_≡_};
+ghost use mathlib.Core.Bool.{true};
 ghost use Prim.Native.Nat.{_+_, _*_, _<_};
 ghost use lib.ListN.{length};
-ghost use Rattle.cell.specs.Cell.{wrapAxis, imageAxis, validAxis, extentOf, valid, wrap as wrapOf, minImage, squared, minus, distance2, volumeOf, pointAt, finitePoint};
+ghost use lib.Ieee.{binary32, div};
+ghost use Rattle.numbers.specs.Whole.{nearZero};
+ghost use Rattle.cell.specs.Cell.{wrapAxis, imageAxis, validAxis, extentOf, valid, wrap as wrapOf, minImage, inExtents, nearAll, squared, minus, distance2, volumeOf, pointAt, finitePoint};
 
 // limits.rt: the refusals that ask only for a call's lists and cell
 pub mod limits;
@@ -108,11 +111,54 @@ pub fn magnitude_squared(d: Vec3) -> f32
     d.x * d.x + d.y * d.y + d.z * d.z
 }
 
-// The squared distance of two points, by the minimum image, in a cell of extent e.
+fn in_extents(d: Vec3, e: Vec3) -> Vec3
+    ensures { λ r. ⌜ r ≡ inExtents d e ⌝ }
+{
+    Vec3 {
+        x: d.x / e.x,
+        y: d.y / e.y,
+        z: d.z / e.z,
+    }
+}
+
+fn near_all(q: Vec3) -> bool
+    ensures { λ r. ⌜ r ≡ nearAll q ⌝ }
+{
+    numbers::whole::near_zero32(q.x)
+        & (numbers::whole::near_zero32(q.y) & numbers::whole::near_zero32(q.z))
+}
+
+// One axis of the minimum image, given q, d / e, which is near zero: no branch.
+fn near_axis(d: f32, e: f32, q: f32) -> f32
+    requires { ⌜ (q ≡ div binary32 d e) × (nearZero q ≡ true) ⌝ }
+    ensures { λ r. ⌜ r ≡ imageAxis d e ⌝ }
+{
+    d - e * numbers::whole::round_near_zero32(q)
+}
+
+// As min_image, given d / e, where that is near zero on all axes.
+fn near_image(e: Vec3, d: Vec3, q: Vec3) -> Vec3
+    requires { ⌜ (q ≡ inExtents d e) × (nearAll q ≡ true) ⌝ }
+    ensures { λ r. ⌜ r ≡ minImage e d ⌝ }
+{
+    Vec3 {
+        x: near_axis(d.x, e.x, q.x),
+        y: near_axis(d.y, e.y, q.y),
+        z: near_axis(d.z, e.z, q.z),
+    }
+}
+
+// The squared distance of two points, by the minimum image, in a cell of extent e. Points in the cell are at most an extent apart, so that
+// the general form is for points outside.
 pub fn distance_squared(e: Vec3, p: Vec3, q: Vec3) -> f32
     ensures { λ r. ⌜ r ≡ distance2 e p q ⌝ }
 {
-    magnitude_squared(min_image(e, separation(p, q)))
+    let d = separation(p, q);
+    let turns = in_extents(d, e);
+    if near_all(turns) {
+        return magnitude_squared(near_image(e, d, turns));
+    }
+    magnitude_squared(min_image(e, d))
 }
 
 // The product of three sides, in order.

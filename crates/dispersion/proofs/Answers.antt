@@ -1,12 +1,12 @@
 -- What each `return` of Centers and Dispersion answers. Assumes nothing.
-use mathlib.Core.Path.{_≡_, sym, _∙_}
+use mathlib.Core.Path.{_≡_, sym, ap, _∙_}
 use mathlib.Core.Bool.{true}
 use mathlib.Core.List.{List, [], _∷_}
 use Prim.Native.Nat.{ℕ, _*_, _≤_, _<_}
 use native.Mathlib.Omega.{arith}
 use lib.Dec.{ltb}
 use lib.ListN.{length}
-use lib.Ieee.{Float, binary32, ofBits}
+use lib.Ieee.{Float}
 use borrow.Author.Tests.{lt-ltb, le-ltb}
 use Rattle.cell.specs.declared.Cell.{Cell}
 use Rattle.cell.specs.Refusals.{Refusal, refuse, firstRefusal}
@@ -28,15 +28,15 @@ sound-input c xs ws starts picks r e z = input-accepted c xs ws starts picks (an
 
 -- ---- Dispersion: the input's refusals
 module _ (c : Cell) (xs : List Float) (starts picks : List ℕ) (r : ℕ) (e : r ≡ firstRefusal (inputRefusals c xs [] starts picks)) where
-  pub dispersion-refused : (r ≡ 0 → ⊥) → (r ≡ dispersionRefusal c xs starts picks) × (ofBits binary32 0 ≡ unlessRefused (dispersionRefusal c xs starts picks) (dispersionOf c xs starts picks) (ofBits binary32 0))
+  pub dispersion-refused : (r ≡ 0 → ⊥) → (r ≡ dispersionRefusal c xs starts picks) × (_≡_ {A = List Float} [] (unlessRefused (dispersionRefusal c xs starts picks) (dispersionOf c xs starts picks ∷ []) []))
   unfolding dispersionRefusal
-  dispersion-refused n = (e, sym (at-refusal (firstRefusal (inputRefusals c xs [] starts picks)) (dispersionOf c xs starts picks) (ofBits binary32 0) (λ z. n (e ∙ z))))
+  dispersion-refused n = (e, sym (at-refusal (firstRefusal (inputRefusals c xs [] starts picks)) (dispersionOf c xs starts picks ∷ []) [] (λ z. n (e ∙ z))))
 
-  pub dispersion-answered : r ≡ 0 → (v : Float) → v ≡ dispersionOf c xs starts picks → (0 ≡ dispersionRefusal c xs starts picks) × (v ≡ unlessRefused (dispersionRefusal c xs starts picks) (dispersionOf c xs starts picks) (ofBits binary32 0))
+  pub dispersion-answered : r ≡ 0 → (v : Float) → v ≡ dispersionOf c xs starts picks → (0 ≡ dispersionRefusal c xs starts picks) × (v ∷ [] ≡ unlessRefused (dispersionRefusal c xs starts picks) (dispersionOf c xs starts picks ∷ []) [])
   unfolding dispersionRefusal
   dispersion-answered z v g =
       let none = answered-none r (inputRefusals c xs [] starts picks) e z in
-      (sym none, g ∙ sym (at-none (firstRefusal (inputRefusals c xs [] starts picks)) (dispersionOf c xs starts picks) (ofBits binary32 0) none))
+      (sym none, ap (λ (s : Float). s ∷ []) g ∙ sym (at-none (firstRefusal (inputRefusals c xs [] starts picks)) (dispersionOf c xs starts picks ∷ []) [] none))
 
 -- ---- Centers: the input's refusals first, then 7
 module _ (c : Cell) (xs : List Float) (starts picks : List ℕ) (t : List Float) where

@@ -1,7 +1,7 @@
 -- Document 01, 'Centers and dispersion' and Dispersion. Definitions only. Assumes nothing.
 use Prim.Native.Nat.{ℕ, zero, suc, _+_, _-_, _*_, _/_}
 use mathlib.Core.Bool.{cond}
-use mathlib.Core.List.{List, []}
+use mathlib.Core.List.{List, [], _∷_}
 use lib.Dec.{ltb}
 use lib.IntN.{pos}
 use lib.Ieee.{Float, binary32, binary64, add, div, lt, le, ofInt, ofBits}
@@ -57,11 +57,11 @@ unfoldable pub dispersionRefusal : Cell → List Float → List ℕ → List ℕ
 unfolding inputRefusals firstRefusal
 dispersionRefusal c xs starts picks = firstRefusal (inputRefusals c xs [] starts picks)
 
--- the number of each case of an answer, and its value (+0 with a refusal)
+-- the number of each case of an answer, and its values: the score, none with a refusal
 abbrev pub dispersedNumber : Dispersed → ℕ
 dispersedNumber (Score s) = 0
 dispersedNumber (Refused n) = n
 
-abbrev pub dispersedScore : Dispersed → Float
-dispersedScore (Score s) = s
-dispersedScore (Refused n) = ofBits binary32 0
+abbrev pub dispersedValues : Dispersed → List Float
+dispersedValues (Score s) = s ∷ []
+dispersedValues (Refused n) = []

@@ -2,15 +2,16 @@
 // `solute_center_dispersion_score`). f32 arithmetic, each operation rounded once; squared distances are summed in f64.
 ghost use mathlib.Core.Path.{_≡_};
 ghost use mathlib.Core.Bool.{true};
+ghost use mathlib.Core.List.{[], _∷_};
 ghost use Prim.Native.Nat.{ℕ, _+_, _-_, _*_, _<_, _≤_};
 ghost use lib.ListN.{length, getD};
-ghost use lib.Ieee.{binary32, binary64, ofBits};
+ghost use lib.Ieee.{binary64, ofBits};
 ghost use Rattle.cell.specs.Cell.{extentOf, minImage, minus};
 ghost use Rattle.cell.specs.Refusals.{numberOf};
 ghost use Rattle.cell.specs.Tables.{over, unlessRefused};
 ghost use Rattle.selection.specs.Sound.{soundLists, copiesIn, pickList};
 ghost use Rattle.dispersion.specs.Centers.{plus, dividedBy, centerOf, centersOf, centersRefusal, centersLeaves};
-ghost use Rattle.dispersion.specs.Dispersion.{clamped, expectedOf, rowSum, pairSum, observedOf, scoreOf, dispersionOf, dispersionRefusal, dispersedNumber, dispersedScore};
+ghost use Rattle.dispersion.specs.Dispersion.{clamped, expectedOf, rowSum, pairSum, observedOf, scoreOf, dispersionOf, dispersionRefusal, dispersedNumber, dispersedValues};
 use cell::Answer;
 use cell::Cell;
 use cell::EPSILON;
@@ -218,7 +219,7 @@ pub fn dispersion_of(cell: Cell, xs: &[f32], starts: &[u32], picks: &[u32]) -> f
 // Dispersion: 1, 2, 3, 4, 15, 8 in this order, or the score.
 pub fn dispersion(cell: Cell, solutes: &[f32], starts: &[u32], picks: &[u32]) -> Dispersed
     ensures answer { λ r. ⌜ dispersedNumber r ≡ dispersionRefusal cell (now (solutes .entry)) (now (starts .entry)) (now (picks .entry)) ⌝ }
-    ensures value { λ r. ⌜ dispersedScore r ≡ unlessRefused (dispersionRefusal cell (now (solutes .entry)) (now (starts .entry)) (now (picks .entry))) (dispersionOf cell (now (solutes .entry)) (now (starts .entry)) (now (picks .entry))) (ofBits binary32 0) ⌝ }
+    ensures values { λ r. ⌜ dispersedValues r ≡ unlessRefused (dispersionRefusal cell (now (solutes .entry)) (now (starts .entry)) (now (picks .entry))) (dispersionOf cell (now (solutes .entry)) (now (starts .entry)) (now (picks .entry)) ∷ []) [] ⌝ }
 {
     let refusal = selection::sound::input_refusal(cell, solutes, &solutes[..0], starts, picks);
     if refusal != 0 {

@@ -7,27 +7,12 @@ use native.Mathlib.Omega.{arith}
 use lib.ListN.{length, getD, take, drop, set, length-take, length-drop}
 use lib.Seq.{drop-cons, getD-take, take-nil}
 use Rattle.cell.proofs.Tables.{Filling, filling-first, filling-next, filling-last, length-none, placed-zero}
-use lib.Ieee.{Float}
-use Rattle.cell.specs.declared.Cell.{Cell}
-use Rattle.cell.specs.Tables.{over, unlessRefused}
-use Rattle.dispersion.specs.Dispersion.{dispersionOf, dispersionRefusal}
-use Rattle.mixing_c.specs.Interface.{answersAfter, dispersionValues}
+use Rattle.cell.specs.Tables.{over}
+use Rattle.mixing_c.specs.Interface.{answersAfter}
 
 -- values that are equal one by one
 pub next-word : {a b : ℕ} {xs ys : List ℕ} → a ≡ b → xs ≡ ys → a ∷ xs ≡ b ∷ ys
 next-word e f = ap₂ _∷_ e f
-
--- Dispersion's number and score give its value, or none
-pub score-given :
-    (c : Cell) (solutes : List Float) (starts picks : List ℕ) (n : ℕ) (s z : Float) → n ≡ dispersionRefusal c solutes starts picks →
-    s ≡ unlessRefused (dispersionRefusal c solutes starts picks) (dispersionOf c solutes starts picks) z →
-    unlessRefused n (s ∷ []) [] ≡ dispersionValues c solutes starts picks
-unfolding dispersionValues
-score-given c solutes starts picks n s z e f = rw (e, f) (twice (dispersionRefusal c solutes starts picks) (dispersionOf c solutes starts picks))
-  where
-    twice : (k : ℕ) (d : Float) → unlessRefused k (unlessRefused k d z ∷ []) [] ≡ unlessRefused k (d ∷ []) []
-    twice zero d = refl
-    twice (suc k) d = refl
 
 -- no values change nothing
 pub none-written : (answers : List ℕ) → answers ≡ answersAfter [] answers

@@ -9,14 +9,12 @@ use report::Reported;
 use selection::Selected;
 use tree::TreeAnswer;
 ghost use mathlib.Core.Path.{_≡_};
-ghost use mathlib.Core.List.{[], _∷_};
 ghost use Prim.Native.Nat.{ℕ, _^_, _<_, min};
 ghost use lib.ListN.{getD};
 ghost use Rattle.cell.specs.Refusals.{numberOf};
-ghost use Rattle.cell.specs.Tables.{unlessRefused};
 ghost use Rattle.selection.specs.Selection.{refusalOf, valuesOf};
 ghost use Rattle.clusters.specs.Answers.{closeNumber, fractionsOf};
-ghost use Rattle.dispersion.specs.Dispersion.{dispersedNumber, dispersedScore};
+ghost use Rattle.dispersion.specs.Dispersion.{dispersedNumber, dispersedValues};
 ghost use Rattle.tree.specs.Tree.{treeNumber, treeAnswered};
 ghost use Rattle.report.specs.Report.{reportNumber, reportAnswered};
 ghost use Rattle.mixing.specs.Frame.{outcomeOf};
@@ -110,36 +108,19 @@ pub(crate) fn closing(a: Closing, answers: &mut [u32]) -> u32
     }
 }
 
-// Dispersion's number and its score, +0 with a refusal.
-fn dispersed_number(a: Dispersed) -> u32
-    ensures { λ r. ⌜ r ≡ dispersedNumber a ⌝ }
-{
-    match a {
-        Dispersed::Score(s) => 0,
-        Dispersed::Refused(n) => n,
-    }
-}
-
-fn dispersed_score(a: Dispersed) -> f32
-    ensures { λ r. ⌜ r ≡ dispersedScore a ⌝ }
-{
-    match a {
-        Dispersed::Score(s) => s,
-        Dispersed::Refused(n) => 0.0,
-    }
-}
-
-// Dispersion's answer. Dispersion promises a number and a score, so the number decides.
+// Dispersion's answer.
 pub(crate) fn dispersed(a: Dispersed, answers: &mut [u32]) -> u32
     ensures number { λ r. ⌜ r ≡ dispersedNumber a ⌝ }
-    ensures answers_after { λ r. ⌜ now (answers .exit) ≡ answersAfter (bitsOf (unlessRefused (dispersedNumber a) (dispersedScore a ∷ []) [])) (now (answers .entry)) ⌝ }
+    ensures answers_after { λ r. ⌜ now (answers .exit) ≡ answersAfter (bitsOf (dispersedValues a)) (now (answers .entry)) ⌝ }
 {
-    let n = dispersed_number(a);
-    if n == 0 {
-        let values = [numbers::class::to_bits32(dispersed_score(a))];
-        words(&values, answers);
+    match a {
+        Dispersed::Refused(n) => n,
+        Dispersed::Score(score) => {
+            let values = [numbers::class::to_bits32(score)];
+            words(&values, answers);
+            0
+        }
     }
-    n
 }
 
 // Tree's answer.

@@ -26,6 +26,8 @@ pub mod Held
 pub mod SameValue
 -- the order of finite values, and that rounding keeps it
 pub mod Signed
+-- |x| at most h by one test
+pub mod Magnitudes
 -- each operation is the exact result rounded
 pub mod Operations
 -- an exact result is not changed

@@ -4,9 +4,9 @@
 use crate::class::from_bits32;
 use crate::class::to_bits32;
 ghost use mathlib.Core.Path.{_≡_};
-ghost use mathlib.Core.Bool.{cond, false};
+ghost use mathlib.Core.Bool.{cond, true, false};
 ghost use lib.Ieee.{binary32, lt, ofBits, toBits};
-ghost use Rattle.numbers.specs.Whole.{floorOf, roundOf};
+ghost use Rattle.numbers.specs.Whole.{floorOf, roundOf, nearZero};
 
 fn floor_any32(x: f32) -> f32
     ensures { λ r. ⌜ r ≡ floorOf binary32 x ⌝ }
@@ -60,8 +60,7 @@ fn round_size32(x: f32) -> f32
     x
 }
 
-// Rounding is odd: a number below zero goes by its opposite. The compiler does not copy a function that calls itself into the loops of its
-// callers, which seldom need this one (round32).
+// Rounding is odd: a number below zero goes by its opposite.
 fn round_any32(x: f32) -> f32
     ensures { λ r. ⌜ r ≡ roundOf binary32 x ⌝ }
 {
@@ -78,14 +77,28 @@ fn unit(t: bool) -> f32
     if t { 1.0 } else { 0.0 }
 }
 
-// The whole number nearest to x, a half away from zero. From -1.5 to 1.5 two comparisons give -1, 0 or 1: a branch at a half would be
-// guessed wrong on every other separation of a minimum image.
+// Whether x is above -1.5 and below 1.5, so that it rounds to -1, 0 or 1.
+pub fn near_zero32(x: f32) -> bool
+    ensures { λ r. ⌜ r ≡ nearZero x ⌝ }
+{
+    (x < 1.5) & (x > -1.5)
+}
+
+// Rounds such an x by two comparisons: a branch at a half would be guessed wrong on every other separation of a minimum image. x * 0.0 is
+// a zero with x's sign.
+pub fn round_near_zero32(x: f32) -> f32
+    requires { ⌜ nearZero x ≡ true ⌝ }
+    ensures { λ r. ⌜ r ≡ roundOf binary32 x ⌝ }
+{
+    x * 0.0 - (unit(x < 0.5) - unit(x > -0.5))
+}
+
+// The whole number nearest to x, a half away from zero.
 pub fn round32(x: f32) -> f32
     ensures { λ r. ⌜ r ≡ roundOf binary32 x ⌝ }
 {
-    if (x < 1.5) & (x > -1.5) {
-        // x * 0.0 is a zero with x's sign
-        return x * 0.0 - (unit(x < 0.5) - unit(x > -0.5));
+    if near_zero32(x) {
+        return round_near_zero32(x);
     }
     round_any32(x)
 }

@@ -46,10 +46,11 @@ fn half_side(side: f32, whole: f32) -> f32
     smaller(side * 0.5 + SHELL, whole * 0.5)
 }
 
+// Whether |d| is at most h, by one comparison: of the two that -h <= d <= h takes, each would be a branch guessed wrong often.
 fn within(d: f32, h: f32) -> bool
     ensures { λ r. ⌜ r ≡ withinHalf d h ⌝ }
 {
-    (d <= h) & (-h <= d)
+    larger(d, -d) <= h
 }
 
 // One axis: whether the minimum image from p, a center coordinate, to q is within half of the box's side with its shell.

@@ -1,23 +1,17 @@
--- `numbers::whole::round32` meets its contract. Below three halves the two tests give the result (`units-round`). Assumes nothing.
+-- `numbers::whole::round32` meets its contract, by those of the calls. Assumes nothing.
 use borrow.Author.Needs.{needs}
-use lib.Ieee.{neg, lt, ofBits}
-use Rattle.numbers.proofs.Tests.{holds, both}
-use Rattle.numbers.proofs.RoundArms.{threeHalves32, units-round}
+use mathlib.Core.Path.{sym, _∙_}
 use Rattle.numbers.proofs.whole.round32.Statement.{statement}
 use Rattle.numbers.proofs.whole.round32.Tie as tie
 
-unit-requires : tie.Need-unit-requires
-unit-requires c κs = search needs
+near-zero32-requires : tie.Need-near-zero32-requires
+near-zero32-requires c κs = search needs
 
-unit-requires-2 : tie.Need-unit-requires-2
-unit-requires-2 c κs = search needs
+round-near-zero32-requires : tie.Need-round-near-zero32-requires
+round-near-zero32-requires c κs = sym (c .before .near-zero32 .ensures) ∙ c .if1 .taken
 
 returns : tie.Need-returns
-unfolding ofBits neg
-returns c =
-    let x = c .before .before .before .args .x in
-    let t = both (lt x threeHalves32) (lt (neg threeHalves32) x) (c .before .before .if1 .taken) in
-    rw (c .before .unit .ensures, c .unit2 .ensures) (units-round x (holds (t .0)) (holds (t .1)))
+returns c = search needs
 
 round-any32-requires : tie.Need-round-any32-requires
 round-any32-requires c κs = search needs
@@ -26,4 +20,4 @@ returns-2 : tie.Need-returns-2
 returns-2 c = search needs
 
 pub round32-spec : {M : Type 1} → statement M
-round32-spec = tie.close (tie.spec unit-requires unit-requires-2 returns round-any32-requires returns-2)
+round32-spec = tie.close (tie.spec near-zero32-requires round-near-zero32-requires returns round-any32-requires returns-2)

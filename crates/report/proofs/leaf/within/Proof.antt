@@ -1,12 +1,16 @@
--- `report::leaf::within` meets its contract: the code is the definition. Assumes nothing.
-use mathlib.Core.Path.{refl}
-use Rattle.report.specs.Leaf.{withinHalf}
+-- `report::leaf::within` meets its contract: one test for the definition's two (`between`). Assumes nothing.
+use borrow.Author.Needs.{needs}
+use Rattle.numbers.proofs.Magnitudes.{between}
+use Rattle.report.specs.Leaf.{larger, withinHalf}
 use Rattle.report.proofs.leaf.within.Statement.{statement}
 use Rattle.report.proofs.leaf.within.Tie as tie
 
+larger-requires : tie.Need-larger-requires
+larger-requires c κs = search needs
+
 returns : tie.Need-returns
-unfolding withinHalf
-returns c = refl
+unfolding larger withinHalf
+returns c = rw (c .larger .ensures) (between (c .before .args .d) (c .before .args .h))
 
 pub within-spec : {M : Type 1} → statement M
-within-spec = tie.close (tie.spec returns)
+within-spec = tie.close (tie.spec larger-requires returns)
