@@ -1,7 +1,7 @@
 -- The search for a coordinate over its limit, an element at a time: what is left of the list decides.
 -- Assumes nothing.
 use mathlib.Core.Path.{_≡_}
-use mathlib.Core.Bool.{true, false, _||_}
+use mathlib.Core.Bool.{Bool, false, _||_, or-assoc}
 use mathlib.Core.List.{List}
 use Prim.Native.Nat.{ℕ, _+_, _≤_, _<_}
 use native.Mathlib.Numerals.{add-one}
@@ -19,8 +19,6 @@ pub over-none : (limit : Float) (xs : List Float) (k : ℕ) → length xs ≤ k 
 unfolding anyOver
 over-none limit xs k l = rw drop-of-length-le
 
-pub over-hit : (limit : Float) (xs : List Float) (k : ℕ) → k < length xs → over limit (getD xs k nan) ≡ true → anyOver limit (drop k xs) ≡ true
-over-hit limit xs k l e = rw (over-more limit xs k l, e)
-
-pub over-skip : (limit : Float) (xs : List Float) (k : ℕ) → k < length xs → over limit (getD xs k nan) ≡ false → anyOver limit (drop (k + 1) xs) ≡ anyOver limit (drop k xs)
-over-skip limit xs k l e = rw (over-more limit xs k l, e)
+-- the next element goes to what was found before it
+pub over-step : (limit : Float) (xs : List Float) (k : ℕ) (any : Bool) → k < length xs → ((any || over limit (getD xs k nan)) || anyOver limit (drop (k + 1) xs)) ≡ (any || anyOver limit (drop k xs))
+over-step limit xs k any l = rw (over-more limit xs k l) (or-assoc any (over limit (getD xs k nan)) (anyOver limit (drop (k + 1) xs)))

@@ -25,18 +25,18 @@ fn over(limit: f32, x: f32) -> bool
     numbers::class::is_finite32(x) & ((limit < x) | (x < -limit))
 }
 
-// Whether a coordinate of the list is over its limit (4), one at a time: also in a point that is not finite.
+// Whether a coordinate of the list is over its limit (4), one at a time: also in a point that is not finite. The loop has no branch on a
+// coordinate, so that a processor tests several at once.
 pub fn coordinate_over(xs: &[f32]) -> bool
     ensures { λ r. ⌜ r ≡ anyOver maxCoordinate (now (xs .entry)) ⌝ }
 {
+    let mut any = false;
     let mut i = 0;
     while i < xs.len() {
-        if over(MAX_COORDINATE, xs[i]) {
-            return true;
-        }
+        any = any | over(MAX_COORDINATE, xs[i]);
         i += 1;
     }
-    false
+    any
 }
 
 // Whether a bound of the cell is over its limit (3).

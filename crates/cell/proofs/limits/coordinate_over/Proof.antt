@@ -1,19 +1,20 @@
--- `cell::limits::coordinate_over` meets its contract. The loop's invariant: what is left of the list from `i` on decides.
--- The measure is what is left of the length. Assumes nothing.
+-- `cell::limits::coordinate_over` meets its contract. The loop's invariant: what was found before `i`, or what is left of the list from there
+-- on, decides. The measure is what is left of the length. Assumes nothing.
 use Prim.Native.Nat.{_≤_, _-_}
-use mathlib.Core.Path.{_≡_, refl, sym, _∙_}
+use mathlib.Core.Path.{_≡_, refl, sym, ap, _∙_}
+use mathlib.Core.Bool.{Bool, _||_, or-false}
 use borrow.Author.Needs.{needs}
 use lib.ListN.{length, drop}
 use Rattle.cell.specs.Limits.{anyOver, maxCoordinate}
-use Rattle.cell.proofs.Search.{over-hit, over-skip, over-none}
+use Rattle.cell.proofs.Search.{over-step, over-none}
 use Rattle.cell.proofs.limits.coordinate_over.Statement.{statement}
 use Rattle.cell.proofs.limits.coordinate_over.Tie as tie
 
 abbrev Inv-loop : tie.InvT-loop
-Inv-loop xs i₀ i = (i ≤ length xs) × (anyOver maxCoordinate (drop i xs) ≡ anyOver maxCoordinate xs)
+Inv-loop xs any₀ i₀ any i = (i ≤ length xs) × ((any || anyOver maxCoordinate (drop i xs)) ≡ anyOver maxCoordinate xs)
 
 abbrev μ-loop : tie.MeasureT-loop
-μ-loop xs i₀ i = length xs - i
+μ-loop xs any₀ i₀ any i = length xs - i
 
 loop-holds : tie.Need-loop-holds Inv-loop μ-loop
 loop-holds c = (search needs, refl)
@@ -27,13 +28,6 @@ shared-slice-read-over c = search needs
 over-requires : tie.Need-over-requires Inv-loop μ-loop
 over-requires c κs = search needs
 
-returns : tie.Need-returns Inv-loop μ-loop
-returns c =
-    let inside = c .before .before .before in
-    let at = inside .before in
-    sym (over-hit maxCoordinate (at .before .before .args .xs .now) (at .loop .i) (inside .loop-test .taken) (sym (c .before .over .ensures) ∙ c .if1 .taken))
-    ∙ at .loop .inv .1
-
 add-i : tie.Need-add-i Inv-loop μ-loop
 add-i c = search needs
 
@@ -42,16 +36,15 @@ loop-less c = search needs
 
 loop-again : tie.Need-loop-again Inv-loop μ-loop
 loop-again c =
-    let inside = c .before .before .before in
-    let at = inside .before in (
-      search needs,
-      over-skip maxCoordinate (at .before .before .args .xs .now) (at .loop .i) (inside .loop-test .taken) (sym (c .before .over .ensures) ∙ c .if1 .left) ∙ at .loop .inv .1,
-    )
+    let inside = c .before .before in
+    let at = inside .before in
+    (search needs, rw (c .over .ensures) (over-step maxCoordinate (at .before .before .args .xs .now) (at .loop .i) (at .loop .any) (inside .loop-test .taken) ∙ at .loop .inv .1))
 
-returns-2 : tie.Need-returns-2 Inv-loop μ-loop
-returns-2 c =
+returns : tie.Need-returns Inv-loop μ-loop
+returns c =
     let at = c .before in
-    sym (over-none maxCoordinate (at .before .before .args .xs .now) (at .loop .i) (c .loop-test .left)) ∙ at .loop .inv .1
+    let none = over-none maxCoordinate (at .before .before .args .xs .now) (at .loop .i) (c .loop-test .left) in
+    sym (or-false (at .loop .any)) ∙ ap (λ (b : Bool). at .loop .any || b) (sym none) ∙ at .loop .inv .1
 
 pub coordinate-over-spec : {M : Type 1} → statement M
 coordinate-over-spec =
@@ -63,8 +56,7 @@ coordinate-over-spec =
     mul-over
     shared-slice-read-over
     over-requires
-    returns
     add-i
     loop-less
     loop-again
-    returns-2)
+    returns)
