@@ -1,17 +1,20 @@
 -- Sound pick lists: their tests, an element at a time, and what lists that pass them have. Assumes nothing.
 use mathlib.Core.Path.{_≡_, refl, subst}
-use mathlib.Core.Bool.{Bool, true, false, _&&_, and-eq-true-iff}
+use mathlib.Core.Bool.{Bool, true, false, _&&_, and-assoc, and-eq-true-iff}
 use mathlib.Core.List.{List, [], _∷_}
-use Prim.Native.Nat.{ℕ, zero, suc, _+_, _-_, _*_, _≤_, _<_, zero-le, suc-le-suc}
+use Prim.Native.Nat.{ℕ, zero, suc, _+_, _-_, _*_, _/_, _≤_, _<_, zero-le, suc-le-suc}
 use native.Mathlib.Nat.{le-of-suc-le-suc}
+use native.Mathlib.Decide.{decLt}
 use native.Mathlib.Numerals.{add-one}
 use native.Mathlib.Omega.{arith}
 use lib.Dec.{ltb, leb, eqb}
 use lib.ListN.{length, getD, drop, length-drop, drop-of-length-le}
 use lib.Seq.{drop-cons}
-use lib.Ieee.{Float}
+use lib.Ieee.{Float, nan}
+use lib.Ieee.Scale.{finite}
 use borrow.Author.Tests.{lt-ltb, le-ltb, ltb-true, le-leb, leb-true, eq-eqb, eqb-true}
 use Rattle.numbers.proofs.Tests.{both}
+use Rattle.cell.specs.Cell.{pointAt, finitePoint}
 use Rattle.cell.specs.Limits.{maxCopies, maxPicks}
 use Rattle.selection.specs.Selection.{finiteAtom}
 use Rattle.selection.specs.Sound.{rises, allFinite, copiesIn, soundStarts, soundLists}
@@ -29,13 +32,11 @@ rises-more l i p h =
     let e : suc (i - 1) ≡ i = omega arith in
     subst (λ (m : ℕ). rises (drop (i - 1) l) ≡ (ltb (getD l (i - 1) 0) (getD l m 0) && rises (drop m l))) e (rises-next l (i - 1) (omega arith))
 
-pub rises-hit : (l : List ℕ) (i : ℕ) → 0 < i → i < length l → getD l i 0 ≤ getD l (i - 1) 0 → rises (drop (i - 1) l) ≡ false
-rises-hit l i p h le = rw (rises-more l i p h, le-ltb (getD l (i - 1) 0) (getD l i 0) le)
-
-pub rises-skip : (l : List ℕ) (i : ℕ) → 0 < i → i < length l → getD l (i - 1) 0 < getD l i 0 → rises (drop (i + 1 - 1) l) ≡ rises (drop (i - 1) l)
-rises-skip l i p h lt =
+-- the next test goes to what was found before it
+pub rises-step : (l : List ℕ) (i : ℕ) (all : Bool) → 0 < i → i < length l → ((all && ltb (getD l (i - 1) 0) (getD l i 0)) && rises (drop (i + 1 - 1) l)) ≡ (all && rises (drop (i - 1) l))
+rises-step l i all p h =
     let e : i + 1 - 1 ≡ i = omega arith in
-    rw (rises-more l i p h, lt-ltb (getD l (i - 1) 0) (getD l i 0) lt, e)
+    rw (rises-more l i p h, e) (and-assoc all (ltb (getD l (i - 1) 0) (getD l i 0)) (rises (drop i l)))
 
 -- at most one number rises
 rises-short : (l : List ℕ) → length l ≤ 1 → rises l ≡ true
@@ -62,6 +63,19 @@ finite-hit xs ps j h lt e = rw (finite-more xs ps j h, lt-ltb (getD ps j 0 * 3 +
 
 pub finite-skip : (xs : List Float) (ps : List ℕ) (j : ℕ) → j < length ps → getD ps j 0 * 3 + 2 < length xs → finiteAtom xs (getD ps j 0) ≡ true → allFinite xs (drop (j + 1) ps) ≡ allFinite xs (drop j ps)
 finite-skip xs ps j h lt e = rw (finite-more xs ps j h, lt-ltb (getD ps j 0 * 3 + 2) (length xs) lt, e)
+
+-- where every coordinate is finite, a pick that names an atom names a finite one
+named : (xs : List Float) (p : ℕ) → ((k : ℕ) → k < length xs → finite (getD xs k nan) ≡ true) → (ltb (p * 3 + 2) (length xs) && finiteAtom xs p) ≡ ltb p (length xs / 3)
+unfolding finiteAtom finitePoint pointAt
+named xs p f = go (decLt (p * 3 + 2) (length xs))
+  where
+    go : Dec (p * 3 + 2 < length xs) → (ltb (p * 3 + 2) (length xs) && finiteAtom xs p) ≡ ltb p (length xs / 3)
+    go (yes l) =
+        rw (lt-ltb (p * 3 + 2) (length xs) l, f (p * 3) (omega arith), f (p * 3 + 1) (omega arith), f (p * 3 + 2) l, lt-ltb p (length xs / 3) (omega arith))
+    go (no m) = rw (le-ltb (p * 3 + 2) (length xs) (omega arith), le-ltb p (length xs / 3) (omega arith))
+
+pub named-step : (xs : List Float) (ps : List ℕ) (j : ℕ) (all : Bool) → ((k : ℕ) → k < length xs → finite (getD xs k nan) ≡ true) → j < length ps → ((all && ltb (getD ps j 0) (length xs / 3)) && allFinite xs (drop (j + 1) ps)) ≡ (all && allFinite xs (drop j ps))
+named-step xs ps j all f h = rw (finite-more xs ps j h, named xs (getD ps j 0) f) (and-assoc all (ltb (getD ps j 0) (length xs / 3)) (allFinite xs (drop (j + 1) ps)))
 
 pub finite-none : (xs : List Float) (ps : List ℕ) (j : ℕ) → length ps ≤ j → allFinite xs (drop j ps) ≡ true
 unfolding allFinite
