@@ -9,10 +9,10 @@ use native.Mathlib.Omega.{arith}
 use native.Mathlib.Decide.{ℕ-discrete}
 use lib.ListN.{length, getD}
 use lib.Dec.{eqb, ltb}
-use borrow.Author.Tests.{eq-eqb, ne-eqb, eqb-true, lt-ltb, le-ltb, ltb-true}
+use borrow.Author.Tests.{eq-eqb, ne-eqb, eqb-true, lt-ltb, ltb-true}
 use Rattle.union_find.specs.Range.{allBelow}
 use Rattle.union_find.specs.Parents.{walk, rootOf, reachesRoot, soundParents}
-use Rattle.union_find.proofs.Ranges.{all-true, all-at, all-false, and-left, and-right}
+use Rattle.union_find.proofs.Ranges.{all-true, all-at, and-left, and-right}
 
 -- from i the root r is d steps away
 pub data Root (p : List ℕ) : ℕ → ℕ → ℕ → Type 0 where
@@ -83,10 +83,6 @@ pub record Sound (p : List ℕ) : Type 0 where
 
 pub closed-of : (p : List ℕ) → allBelow (length p) (λ i. ltb (getD p i 0) (length p)) ≡ true → Closed p
 closed-of p e = record { at = λ i l. ltb-true _ _ (all-at (length p) (λ i. ltb (getD p i 0) (length p)) i e l) }
-
--- a parent that is not below n
-pub low-not : (p : List ℕ) (i : ℕ) → i < length p → length p ≤ getD p i 0 → false ≡ allBelow (length p) (λ i. ltb (getD p i 0) (length p))
-low-not p i l h = sym (all-false (length p) (λ i. ltb (getD p i 0) (length p)) i l (le-ltb (getD p i 0) (length p) h))
 
 -- the test of `specs/` says that
 pub sound-parents : (p : List ℕ) → (soundParents p ≡ true) ↔ Sound p

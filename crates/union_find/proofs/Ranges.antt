@@ -26,10 +26,36 @@ pub and-false : (a b : Bool) → b ≡ false → (a && b) ≡ false
 and-false true b e = e
 and-false false b e = refl
 
+-- the steps of a loop that tests all
+pub all-none : (f : ℕ → Bool) → true ≡ allBelow 0 f
+unfolding allBelow
+all-none f = refl
+
+pub all-next : (n : ℕ) (f : ℕ → Bool) (a : Bool) → a ≡ allBelow n f → (a && f n) ≡ allBelow (n + 1) f
+unfolding allBelow
+all-next n f a e = rw (add-one, e)
+
 pub all-true : (n : ℕ) (f : ℕ → Bool) → ((k : ℕ) → k < n → f k ≡ true) → allBelow n f ≡ true
 unfolding allBelow
 all-true zero f h = refl
 all-true (suc n) f h = rw (all-true n f (λ k l. h k (omega arith)), h n (le-refl (suc n)))
+
+-- two tests of the same answers, and two tests at once
+pub all-same : (n : ℕ) (f g : ℕ → Bool) → ((k : ℕ) → k < n → f k ≡ g k) → allBelow n f ≡ allBelow n g
+unfolding allBelow
+all-same zero f g h = refl
+all-same (suc n) f g h = rw (all-same n f g (λ k l. h k (omega arith)), h n (le-refl (suc n)))
+
+and-swap : (a b c d : Bool) → ((a && c) && (b && d)) ≡ ((a && b) && (c && d))
+and-swap false b c d = refl
+and-swap true b true d = refl
+and-swap true true false d = refl
+and-swap true false false d = refl
+
+pub all-both : (n : ℕ) (f g : ℕ → Bool) → (allBelow n f && allBelow n g) ≡ allBelow n (λ k. f k && g k)
+unfolding allBelow
+all-both zero f g = refl
+all-both (suc n) f g = rw (← all-both n f g) (and-swap (allBelow n f) (allBelow n g) (f n) (g n))
 
 pub all-at : (n : ℕ) (f : ℕ → Bool) (k : ℕ) → allBelow n f ≡ true → k < n → f k ≡ true
 unfolding allBelow

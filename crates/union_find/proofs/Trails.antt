@@ -5,11 +5,11 @@ use mathlib.Core.List.{List}
 use Prim.Native.Nat.{ℕ, suc, _≤_, _<_, suc-le-suc}
 use native.Mathlib.Nat.{le-refl, le-of-lt}
 use native.Mathlib.Omega.{arith}
-use lib.ListN.{length}
+use lib.ListN.{length, getD}
 use lib.Dec.{eqb}
 use borrow.Author.Tests.{eq-eqb, ne-eqb, eqb-true}
 use Rattle.union_find.specs.Range.{count}
-use Rattle.union_find.specs.Parents.{rootOf, reachesRoot}
+use Rattle.union_find.specs.Parents.{walk, rootOf, reachesRoot}
 use Rattle.union_find.proofs.Ranges.{count-add, count-le, count-zero}
 use Rattle.union_find.proofs.Forest.{Root, here, up, one-distance, is-root, root-is, walk-ends, Closed, Sound}
 
@@ -82,6 +82,11 @@ root-of c l w = root-is w (le-of-lt (distance-below c l w))
 pub reaches-of : {p : List ℕ} {d x s : ℕ} → Closed p → x < length p → Root p d x s → reachesRoot p x ≡ true
 unfolding reachesRoot
 reaches-of {p} c l w = rw (root-of c l w) (eq-eqb _ _ (is-root w))
+
+-- a root two steps above the copy two steps above x
+pub reaches-four : {p : List ℕ} (x b r : ℕ) → Closed p → x < length p → b ≡ walk p 2 x → r ≡ walk p 2 b → getD p r 0 ≡ r → reachesRoot p x ≡ true
+unfolding walk
+reaches-four {p} x b r c l e f h = reaches-of c l (walk-ends p 4 x (rw (f, e) at h) .2)
 
 pub reaches-root : (p : List ℕ) (x : ℕ) → reachesRoot p x ≡ true → (d : ℕ) × (s : ℕ) × Root p d x s
 unfolding reachesRoot rootOf

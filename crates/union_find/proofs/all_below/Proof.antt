@@ -1,40 +1,34 @@
--- `union_find::all_below` meets its contract. The loop's invariant: each parent before i is below n. The measure is what is left of n.
--- Assumes nothing.
-use mathlib.Core.Path.{_≡_, sym}
-use mathlib.Core.Bool.{true}
-use Prim.Native.Nat.{ℕ, _-_, _≤_, _<_, zero-le}
+-- `union_find::all_below` meets its contract. The loop's invariant: `all` says whether each word before i is below n. The measure is what is
+-- left of the words. Assumes nothing.
+use mathlib.Core.Path.{_≡_, ap, _∙_}
+use mathlib.Core.Bool.{Bool}
+use mathlib.Core.List.{List}
+use Prim.Native.Nat.{ℕ, _-_, _≤_, zero-le}
 use native.Mathlib.Omega.{arith}
 use lib.ListN.{length, getD}
 use lib.Dec.{ltb}
-use borrow.Author.Count.{below-none, below-more}
-use borrow.Author.Tests.{lt-ltb}
-use Rattle.union_find.proofs.Ranges.{all-true}
-use Rattle.union_find.proofs.Forest.{low-not}
+use Rattle.union_find.specs.Range.{allBelow}
+use Rattle.union_find.proofs.Ranges.{all-none, all-next}
 use Rattle.union_find.proofs.all_below.Statement.{statement}
 use Rattle.union_find.proofs.all_below.Tie as tie
 
+abbrev low : List ℕ → ℕ → ℕ → Bool
+low ws n k = ltb (getD ws k 0) n
+
 abbrev Inv-loop : tie.InvT-loop
-Inv-loop parent n i₀ i = (i ≤ n) × ((k : ℕ) → k < i → ltb (getD parent k 0) (length parent) ≡ true)
+Inv-loop words n all₀ i₀ all i = (i ≤ length words) × (all ≡ allBelow i (low words n))
 
 abbrev μ-loop : tie.MeasureT-loop
-μ-loop parent n i₀ i = n - i
+μ-loop words n all₀ i₀ all i = length words - i
 
 loop-holds : tie.Need-loop-holds Inv-loop μ-loop
-loop-holds c = (zero-le, below-none _)
+loop-holds c = (zero-le, all-none _)
 
-mul-if1 : tie.Need-mul-if1 Inv-loop μ-loop
-mul-if1 c = omega arith
+mul-all : tie.Need-mul-all Inv-loop μ-loop
+mul-all c = omega arith
 
-shared-slice-read-if1 : tie.Need-shared-slice-read-if1 Inv-loop μ-loop
-shared-slice-read-if1 c = omega arith
-
-cast-if1 : tie.Need-cast-if1 Inv-loop μ-loop
-cast-if1 c = omega (arith, c .shared-slice-known .given (c .before .before .loop .i))
-
-returns : tie.Need-returns Inv-loop μ-loop
-returns c =
-    let b = c .before .before .before in
-    low-not (b .before .args .parent .now) (b .loop .i) (c .before .before .loop-test .taken) (omega (arith, c .if1 .taken))
+shared-slice-read-all : tie.Need-shared-slice-read-all Inv-loop μ-loop
+shared-slice-read-all c = omega arith
 
 add-i : tie.Need-add-i Inv-loop μ-loop
 add-i c = omega arith
@@ -43,10 +37,16 @@ loop-less : tie.Need-loop-less Inv-loop μ-loop
 loop-less c = omega arith
 
 loop-again : tie.Need-loop-again Inv-loop μ-loop
-loop-again c = (omega arith, below-more _ _ (c .before .before .before .loop .inv .1) (lt-ltb _ _ (c .if1 .left)))
+loop-again c =
+    let at = c .before .before in
+    (omega arith, all-next (at .loop .i) (low (at .before .args .words .now) (at .before .args .n)) _ (at .loop .inv .1))
 
-returns-2 : tie.Need-returns-2 Inv-loop μ-loop
-returns-2 c = sym (all-true _ _ (λ k l. c .before .loop .inv .1 k (omega (arith, c .loop-test .left))))
+returns : tie.Need-returns Inv-loop μ-loop
+returns c =
+    let at = c .before in
+    let ws = at .before .args .words .now in
+    let end : at .loop .i ≡ length ws = omega (arith, c .loop-test .left) in
+    at .loop .inv .1 ∙ ap (λ (k : ℕ). allBelow k (low ws (at .before .args .n))) end
 
 pub all-below-spec : {M : Type 1} → statement M
 all-below-spec =
@@ -55,11 +55,9 @@ all-below-spec =
     Inv-loop
     μ-loop
     loop-holds
-    mul-if1
-    shared-slice-read-if1
-    cast-if1
-    returns
+    mul-all
+    shared-slice-read-all
     add-i
     loop-less
     loop-again
-    returns-2)
+    returns)

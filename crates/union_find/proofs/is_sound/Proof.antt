@@ -1,12 +1,16 @@
--- `union_find::is_sound` meets its contract: its two tests are the two halves of the definition, and no copy is stamped at first.
--- Assumes nothing.
+-- `union_find::is_sound` meets its contract: its two tests are the two halves of the definition, a shallow list passes the second, and no copy is
+-- stamped at first. Assumes nothing.
 use mathlib.Core.Path.{sym, _∙_}
 use borrow.Author.Needs.{needs}
 use borrow.Author.Tests.{not-true, not-false}
+use Rattle.union_find.proofs.Ranges.{all-true}
 use Rattle.union_find.proofs.Forest.{sound-not, sound-rest}
 use Rattle.union_find.proofs.Climbs.{stamped-none}
 use Rattle.union_find.proofs.is_sound.Statement.{statement}
 use Rattle.union_find.proofs.is_sound.Tie as tie
+
+cast-all-below : tie.Need-cast-all-below
+cast-all-below c = search needs
 
 all-below-requires : tie.Need-all-below-requires
 all-below-requires c κs = search needs
@@ -14,20 +18,37 @@ all-below-requires c κs = search needs
 returns : tie.Need-returns
 returns c = sound-not _ (sym (c .before .all-below .ensures) ∙ not-true _ (c .if1 .taken))
 
+shallow-requires : tie.Need-shallow-requires
+shallow-requires c κs = (sym (c .before .all-below .ensures) ∙ not-false _ (c .if1 .left), c .before .before .before .pre)
+
+returns-2 : tie.Need-returns-2
+returns-2 c =
+    let b = c .before .before in
+    sym (all-true _ _ (c .before .shallow .ensures (c .if2 .taken))) ∙ sound-rest _ (sym (b .before .all-below .ensures) ∙ not-false _ (b .if1 .left))
+
 slice-aggregate-all-end : tie.Need-slice-aggregate-all-end
 slice-aggregate-all-end c = search needs
 
 all-end-requires : tie.Need-all-end-requires
 all-end-requires c κs =
-    let st = c .before .before .before .before in
-    (sym (c .before .before .all-below .ensures) ∙ not-false _ (c .before .if1 .left), ((st .pre, st .pre), stamped-none _ 4096 (st .pre)))
-
-returns-2 : tie.Need-returns-2
-returns-2 c =
     let b = c .before .before .before in
+    let st = b .before .before .before in
+    (sym (b .before .all-below .ensures) ∙ not-false _ (b .if1 .left), ((st .pre, st .pre), stamped-none _ 4096 (st .pre)))
+
+returns-3 : tie.Need-returns-3
+returns-3 c =
+    let b = c .before .before .before .before .before in
     c .before .all-end .ensures ∙ sound-rest _ (sym (b .before .all-below .ensures) ∙ not-false _ (b .if1 .left))
 
 pub is-sound-spec : {M : Type 1} → statement M
 is-sound-spec =
     tie.close
-    (tie.spec all-below-requires returns slice-aggregate-all-end all-end-requires returns-2)
+    (tie.spec
+    cast-all-below
+    all-below-requires
+    returns
+    shallow-requires
+    returns-2
+    slice-aggregate-all-end
+    all-end-requires
+    returns-3)
