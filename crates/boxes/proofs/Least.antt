@@ -1,6 +1,6 @@
 -- The least and the greatest coordinate of some picks: worked out a pick at a time, one of the coordinates, and not above (not below)
 -- any of them. Assumes nothing.
-use mathlib.Core.Path.{_≡_}
+use mathlib.Core.Path.{_≡_, refl}
 use mathlib.Core.List.{List, [], _∷_}
 use Prim.Native.Nat.{ℕ, zero, suc, _+_, _^_, _≤_, _<_, suc-le-suc}
 use native.Mathlib.Nat.{zero-lt-suc, le-of-suc-le-suc}
@@ -35,6 +35,17 @@ module _ (xs : List Float) (axis : ℕ) (v : Float) (ps : List ℕ) (k : ℕ) wh
   pub greatest-last : length ps ≤ k → greatestFrom xs axis v (drop k ps) ≡ v
   unfolding greatestFrom
   greatest-last l = rw drop-of-length-le
+
+-- the first pick's coordinate is the least of itself
+pub least-first : (xs : List Float) (axis : ℕ) (ps : List ℕ) → 0 < length ps → leastFrom xs axis (coordinate xs axis (getD ps 0 0)) (drop 1 ps) ≡ leastOf xs axis ps
+unfolding leastOf leastFrom
+least-first xs axis [] l = absurd (omega arith)
+least-first xs axis (p ∷ ps) l = let u = coordinate xs axis p in rw (of-smaller (λ (x : Float). x ≡ u) u u refl refl)
+
+pub greatest-first : (xs : List Float) (axis : ℕ) (ps : List ℕ) → 0 < length ps → greatestFrom xs axis (coordinate xs axis (getD ps 0 0)) (drop 1 ps) ≡ greatestOf xs axis ps
+unfolding greatestOf greatestFrom
+greatest-first xs axis [] l = absurd (omega arith)
+greatest-first xs axis (p ∷ ps) l = let u = coordinate xs axis p in rw (of-larger (λ (x : Float). x ≡ u) u u refl refl)
 
 -- ---- of coordinates within 2 ^ 20
 abbrev In : Float → Type 0

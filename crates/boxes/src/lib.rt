@@ -37,7 +37,7 @@ pub struct Ends {
     pub hi: f32,
 }
 
-// The least and the greatest coordinate of the picks on an axis: 0, 1, 2 are x, y, z.
+// The least and the greatest coordinate of the picks on an axis: 0, 1, 2 are x, y, z. For one pick the loop has no turn.
 fn ends_of(xs: &[f32], a: &[u32], axis: usize) -> Ends
     requires { ⌜ (0 < length (now a)) × (axis < 3) ⌝ }
     requires { ⌜ ((k : ℕ) → k < length (now a) → getD (now a) k 0 * 3 + 2 < length (now xs)) ⌝ }
@@ -45,7 +45,7 @@ fn ends_of(xs: &[f32], a: &[u32], axis: usize) -> Ends
 {
     let mut lo = coordinate(xs, a[0], axis);
     let mut hi = lo;
-    let mut k = 0;
+    let mut k = 1;
     while k < a.len() {
         let v = coordinate(xs, a[k], axis);
         lo = gates::smaller(lo, v);

@@ -1,11 +1,11 @@
 -- `boxes::ends_of` meets its contract. Invariant: from lo and hi on, what is left of the picks gives the least and the greatest of all; measure
 -- the picks that are left. Assumes nothing.
 use mathlib.Core.Path.{_≡_, sym, _∙_}
-use Prim.Native.Nat.{_-_, _≤_, zero-le}
+use Prim.Native.Nat.{_-_, _≤_}
 use native.Mathlib.Omega.{arith}
 use lib.ListN.{length, drop}
 use Rattle.boxes.specs.Boxes.{leastFrom, greatestFrom, leastOf, greatestOf}
-use Rattle.boxes.proofs.Least.{least-next, least-last, greatest-next, greatest-last}
+use Rattle.boxes.proofs.Least.{least-first, least-next, least-last, greatest-first, greatest-next, greatest-last}
 use borrow.Author.Needs.{needs}
 use Rattle.boxes.proofs.ends_of.Statement.{statement}
 use Rattle.boxes.proofs.ends_of.Tie as tie
@@ -23,8 +23,13 @@ coordinate-requires : tie.Need-coordinate-requires Inv-loop μ-loop
 coordinate-requires c κs = let st = c .before .before .before in (st .pre .1 0 (st .pre .0 .0), st .pre .0 .1)
 
 loop-holds : tie.Need-loop-holds Inv-loop μ-loop
-unfolding leastOf greatestOf
-loop-holds c = (zero-le, rw (c .coordinate .ensures), rw (c .coordinate .ensures))
+loop-holds c =
+    let st = c .before .before .before .before in
+    let some = st .pre .0 .0 in (
+      some,
+      rw (c .coordinate .ensures) (least-first (st .args .xs .now) (st .args .axis) (st .args .a .now) some),
+      rw (c .coordinate .ensures) (greatest-first (st .args .xs .now) (st .args .axis) (st .args .a .now) some),
+    )
 
 mul-coordinate : tie.Need-mul-coordinate Inv-loop μ-loop
 mul-coordinate c = search needs
