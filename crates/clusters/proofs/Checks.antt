@@ -1,14 +1,17 @@
 -- The test of a table (9), part by part, and what a sound table gives. Assumes nothing.
-use mathlib.Core.Path.{_≡_, refl, sym}
-use mathlib.Core.Bool.{true, false}
+use mathlib.Core.Path.{_≡_, refl, sym, ap, _∙_}
+use mathlib.Core.Bool.{Bool, true, false, _&&_}
 use mathlib.Core.List.{List}
-use Prim.Native.Nat.{ℕ, _^_, _≤_, _<_}
+use Prim.Native.Nat.{ℕ, _+_, _-_, _^_, _≤_, _<_}
 use native.Mathlib.Omega.{arith}
+use native.Mathlib.Decide.{decLe}
 use lib.Dec.{eqb, ltb, leb}
+use lib.ListN.{length, getD, take, drop, length-take, length-drop}
+use lib.Seq.{getD-take, getD-drop}
 use borrow.Author.Tests.{eq-eqb, ne-eqb, eqb-true, ltb-true, leb-true, lt-ltb, le-ltb, le-leb, lt-leb}
 use Rattle.union_find.specs.Range.{allBelow}
 use Rattle.union_find.specs.Parents.{soundParents}
-use Rattle.union_find.proofs.Ranges.{all-at, and-left, and-right, and-false}
+use Rattle.union_find.proofs.Ranges.{all-at, all-same, all-both, and-left, and-right, and-false}
 use Rattle.clusters.specs.Table.{copies, contacts, parents, degree, mark, pairs, soundWords, soundTable}
 use Rattle.clusters.proofs.Sums.{half-few}
 
@@ -17,13 +20,26 @@ pub words-right : (n : ℕ) (t : List ℕ) (i : ℕ) → degree n t i < n → ma
 unfolding soundWords
 words-right n t i a b = rw (lt-ltb (degree n t i) n a, le-leb (mark n t i) 1 b)
 
-pub words-degree : (n : ℕ) (t : List ℕ) (i : ℕ) → n ≤ degree n t i → soundWords n t i ≡ false
-unfolding soundWords
-words-degree n t i a = rw (le-ltb (degree n t i) n a)
+-- n words of the table from `at` on, as they are lent: each below m
+pub low-part : (t : List ℕ) (at n m : ℕ) → at + n ≤ length t → allBelow (length (take (at + n - at) (drop at t))) (λ i. ltb (getD (take (at + n - at) (drop at t)) i 0) m) ≡ allBelow n (λ i. ltb (getD t (at + i) 0) m)
+low-part t at n m h =
+    let part : at + n - at ≡ n = omega arith in
+    let size : length (take n (drop at t)) ≡ n = simp (length-take, length-drop) (omega arith) in
+    rw (part, size) (all-same n _ _ (λ k l. ap (λ (x : ℕ). ltb x m) (getD-take n (drop at t) k 0 l ∙ getD-drop at t k 0)))
 
-pub words-mark : (n : ℕ) (t : List ℕ) (i : ℕ) → 1 < mark n t i → soundWords n t i ≡ false
+below-two : (x : ℕ) → ltb x 2 ≡ leb x 1
+below-two x = go (decLe x 1)
+  where
+    go : Dec (x ≤ 1) → ltb x 2 ≡ leb x 1
+    go (yes h) = rw (lt-ltb x 2 (omega arith), le-leb x 1 h)
+    go (no h) = rw (le-ltb x 2 (omega arith), lt-leb x 1 (omega arith))
+
+-- the degrees and the marks, each in one pass
+pub words-parts : (n : ℕ) (t : List ℕ) → (allBelow n (λ i. ltb (degree n t i) n) && allBelow n (λ i. ltb (mark n t i) 2)) ≡ allBelow n (soundWords n t)
 unfolding soundWords
-words-mark n t i a = rw (lt-leb (mark n t i) 1 a) (and-false (ltb (degree n t i) n) false refl)
+words-parts n t =
+    all-both n (λ i. ltb (degree n t i) n) (λ i. ltb (mark n t i) 2)
+    ∙ all-same n _ _ (λ k l. ap (λ (b : Bool). ltb (degree n t k) n && b) (below-two (mark n t k)))
 
 -- ---- the whole table
 pub table-own : (n : ℕ) (t : List ℕ) → (copies t ≡ n → ⊥) → false ≡ soundTable n t

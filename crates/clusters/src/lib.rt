@@ -97,17 +97,10 @@ fn words_sound(table: &[u32], n: usize) -> bool
     requires { ⌜ (n ≤ 4096) × (words n ≤ length (now table)) ⌝ }
     ensures { λ r. ⌜ r ≡ allBelow n (soundWords n (now (table .entry))) ⌝ }
 {
-    let mut i = 0;
-    while i < n {
-        if table[2 + n + i] as usize >= n {
-            return false;
-        }
-        if table[2 + n + n + i] > 1 {
-            return false;
-        }
-        i += 1;
-    }
-    true
+    let a = 2 + n;
+    let b = a + n;
+    let c = b + n;
+    union_find::all_below(&table[a..b], n as u32) & union_find::all_below(&table[b..c], 2)
 }
 
 // Whether a table of n copies is sound: any table whatever is decided.

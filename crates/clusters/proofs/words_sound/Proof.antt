@@ -1,95 +1,80 @@
--- `clusters::words_sound` meets its contract. Invariant: the degrees and marks below i are sound; measure n - i. A word that is not
--- ends the loop with false. Assumes nothing.
-use mathlib.Core.Path.{_≡_, sym}
-use mathlib.Core.Bool.{true}
-use Prim.Native.Nat.{ℕ, _+_, _-_, _≤_, _<_, zero-le}
+-- `clusters::words_sound` meets its contract: the degrees and the marks are lent as two parts of the table (`low-part`), and both tests together are
+-- the definition's. Assumes nothing.
+use mathlib.Core.Path.{ap₂, _∙_}
+use mathlib.Core.Bool.{_&&_}
+use Prim.Native.Nat.{_+_}
 use native.Mathlib.Omega.{arith}
-use borrow.Author.Count.{below-none, below-more}
-use Rattle.clusters.specs.Table.{soundWords}
-use Rattle.union_find.proofs.Ranges.{all-true, all-false}
-use Rattle.clusters.proofs.Checks.{words-right, words-degree, words-mark}
+use borrow.Author.Needs.{needs}
+use Rattle.clusters.proofs.Checks.{low-part, words-parts}
 use Rattle.clusters.proofs.words_sound.Statement.{statement}
 use Rattle.clusters.proofs.words_sound.Tie as tie
 
-abbrev Inv-loop : tie.InvT-loop
-Inv-loop table n i₀ i = (i ≤ n) × ((k : ℕ) → k < i → soundWords n table k ≡ true)
+add-a : tie.Need-add-a
+add-a c = search needs
 
-abbrev μ-loop : tie.MeasureT-loop
-μ-loop table n i₀ i = n - i
+add-b : tie.Need-add-b
+add-b c = search needs
 
-loop-holds : tie.Need-loop-holds Inv-loop μ-loop
-loop-holds c = (zero-le, below-none _)
+add-c : tie.Need-add-c
+add-c c = search needs
 
-add-if1 : tie.Need-add-if1 Inv-loop μ-loop
-add-if1 c = omega arith
+mul-all-below : tie.Need-mul-all-below
+mul-all-below c = search needs
 
-add-if1-2 : tie.Need-add-if1-2 Inv-loop μ-loop
-add-if1-2 c = omega arith
+sub-all-below : tie.Need-sub-all-below
+sub-all-below c = search needs
 
-mul-if1 : tie.Need-mul-if1 Inv-loop μ-loop
-mul-if1 c = omega arith
+part-all-below-start : tie.Need-part-all-below-start
+part-all-below-start c = search needs
 
-shared-slice-read-if1 : tie.Need-shared-slice-read-if1 Inv-loop μ-loop
-shared-slice-read-if1 c = omega arith
+part-all-below-end : tie.Need-part-all-below-end
+part-all-below-end c = search needs
 
-cast-if1 : tie.Need-cast-if1 Inv-loop μ-loop
-cast-if1 c = omega (arith, c .shared-slice-known .given (2 + c .before .before .before .args .n + c .before .before .loop .i))
+cast-all-below : tie.Need-cast-all-below
+cast-all-below c = search needs
 
-returns : tie.Need-returns Inv-loop μ-loop
-returns c = sym (all-false _ _ _ (c .before .before .loop-test .taken) (words-degree _ _ _ (c .if1 .taken)))
+all-below-requires : tie.Need-all-below-requires
+all-below-requires c κs = search needs
 
-add-if2 : tie.Need-add-if2 Inv-loop μ-loop
-add-if2 c = omega arith
+mul-all-below-2 : tie.Need-mul-all-below-2
+mul-all-below-2 c = search needs
 
-add-if2-2 : tie.Need-add-if2-2 Inv-loop μ-loop
-add-if2-2 c = omega arith
+sub-all-below-2 : tie.Need-sub-all-below-2
+sub-all-below-2 c = search needs
 
-add-if2-3 : tie.Need-add-if2-3 Inv-loop μ-loop
-add-if2-3 c = omega arith
+part-all-below-start-2 : tie.Need-part-all-below-start-2
+part-all-below-start-2 c = search needs
 
-mul-if2 : tie.Need-mul-if2 Inv-loop μ-loop
-mul-if2 c = omega arith
+part-all-below-end-2 : tie.Need-part-all-below-end-2
+part-all-below-end-2 c = search needs
 
-shared-slice-read-if2 : tie.Need-shared-slice-read-if2 Inv-loop μ-loop
-shared-slice-read-if2 c = omega arith
+all-below-requires-2 : tie.Need-all-below-requires-2
+all-below-requires-2 c κs = search needs
 
-returns-2 : tie.Need-returns-2 Inv-loop μ-loop
-returns-2 c = sym (all-false _ _ _ (c .before .before .before .before .loop-test .taken) (words-mark _ _ _ (c .if2 .taken)))
-
-add-i : tie.Need-add-i Inv-loop μ-loop
-add-i c = omega arith
-
-loop-less : tie.Need-loop-less Inv-loop μ-loop
-loop-less c = omega arith
-
-loop-again : tie.Need-loop-again Inv-loop μ-loop
-loop-again c =
-    let b = c .before .before .before .before .before in
-    (omega arith, below-more _ _ (b .loop .inv .1) (words-right _ _ _ (c .before .before .if1 .left) (c .if2 .left)))
-
-returns-3 : tie.Need-returns-3 Inv-loop μ-loop
-returns-3 c = sym (all-true _ _ (λ k l. c .before .loop .inv .1 k (omega arith)))
+returns : tie.Need-returns
+returns c =
+    let st = c .before .before .before .before .before in
+    let t = st .args .table .now in
+    let n = st .args .n in
+    ap₂ _&&_ (c .before .before .all-below .ensures ∙ low-part t (2 + n) n n (omega arith)) (c .all-below2 .ensures ∙ low-part t (2 + n + n) n 2 (omega arith))
+    ∙ words-parts n t
 
 pub words-sound-spec : {M : Type 1} → statement M
 words-sound-spec =
     tie.close
     (tie.spec
-    Inv-loop
-    μ-loop
-    loop-holds
-    add-if1
-    add-if1-2
-    mul-if1
-    shared-slice-read-if1
-    cast-if1
-    returns
-    add-if2
-    add-if2-2
-    add-if2-3
-    mul-if2
-    shared-slice-read-if2
-    returns-2
-    add-i
-    loop-less
-    loop-again
-    returns-3)
+    add-a
+    add-b
+    add-c
+    mul-all-below
+    sub-all-below
+    part-all-below-start
+    part-all-below-end
+    cast-all-below
+    all-below-requires
+    mul-all-below-2
+    sub-all-below-2
+    part-all-below-start-2
+    part-all-below-end-2
+    all-below-requires-2
+    returns)

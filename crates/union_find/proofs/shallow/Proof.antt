@@ -56,8 +56,8 @@ loop-again c =
     let at = inside .before in (
       omega arith,
       below-more _ _ (at .loop .inv .1)
-      (reaches-four (at .loop .i) (next .before .two-up .result) (next .two-up2 .result) (closed-of _ (at .before .before .pre .0)) (inside .loop-test .taken)
-      (next .before .two-up .ensures .0) (next .two-up2 .ensures .0) (c .if1 .left)),
+          (reaches-four (at .loop .i) (next .before .two-up .result) (next .two-up2 .result) (closed-of _ (at .before .before .pre .0)) (inside .loop-test .taken)
+          (next .before .two-up .ensures .0) (next .two-up2 .ensures .0) (c .if1 .left)),
     )
 
 returns-2 : tie.Need-returns-2 Inv-loop μ-loop
