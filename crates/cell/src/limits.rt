@@ -2,6 +2,7 @@
 // waters or no indices hands over an empty list in their place.
 use crate::Cell;
 ghost use mathlib.Core.Path.{_≡_};
+ghost use mathlib.Core.Bool.{false};
 ghost use lib.ListN.{length};
 ghost use Rattle.cell.specs.Limits.{over as overOf, anyOver, ragged as raggedOf, long as longOf, boundOver, limitRefusals, frameRefusals, maxCoordinate};
 ghost use Rattle.cell.specs.Refusals.{firstRefusal};
@@ -25,9 +26,23 @@ fn over(limit: f32, x: f32) -> bool
     numbers::class::is_finite32(x) & ((limit < x) | (x < -limit))
 }
 
-// Whether a coordinate of the list is over its limit (4), one at a time: also in a point that is not finite. The loop has no branch on a
-// coordinate, so that a processor tests several at once.
-pub fn coordinate_over(xs: &[f32]) -> bool
+// Whether a coordinate is beyond its limit, an infinite one too. Here and below the loop has no branch on a coordinate, so that a processor tests
+// several at once.
+fn beyond(xs: &[f32]) -> bool
+    ensures { λ r. ⌜ (r ≡ false → anyOver maxCoordinate (now (xs .entry)) ≡ false) ⌝ }
+{
+    let mut any = false;
+    let mut i = 0;
+    while i < xs.len() {
+        let x = xs[i];
+        any = any | ((MAX_COORDINATE < x) | (x < -MAX_COORDINATE));
+        i += 1;
+    }
+    any
+}
+
+// Whether a coordinate is finite and over its limit.
+fn finite_over(xs: &[f32]) -> bool
     ensures { λ r. ⌜ r ≡ anyOver maxCoordinate (now (xs .entry)) ⌝ }
 {
     let mut any = false;
@@ -37,6 +52,17 @@ pub fn coordinate_over(xs: &[f32]) -> bool
         i += 1;
     }
     any
+}
+
+// Whether a coordinate of the list is over its limit (4), one at a time: also in a point that is not finite. Most lists have none beyond it, which
+// is tested in less than whether one is finite too.
+pub fn coordinate_over(xs: &[f32]) -> bool
+    ensures { λ r. ⌜ r ≡ anyOver maxCoordinate (now (xs .entry)) ⌝ }
+{
+    if !beyond(xs) {
+        return false;
+    }
+    finite_over(xs)
 }
 
 // Whether a bound of the cell is over its limit (3).

@@ -83,10 +83,18 @@ pub reaches-of : {p : List ℕ} {d x s : ℕ} → Closed p → x < length p → 
 unfolding reachesRoot
 reaches-of {p} c l w = rw (root-of c l w) (eq-eqb _ _ (is-root w))
 
--- a root two steps above the copy two steps above x
-pub reaches-four : {p : List ℕ} (x b r : ℕ) → Closed p → x < length p → b ≡ walk p 2 x → r ≡ walk p 2 b → getD p r 0 ≡ r → reachesRoot p x ≡ true
+-- a root k steps above x
+pub reaches-walk : {p : List ℕ} (k x r : ℕ) → Closed p → x < length p → r ≡ walk p k x → getD p r 0 ≡ r → reachesRoot p x ≡ true
+reaches-walk {p} k x r c l e h = reaches-of c l (walk-ends p k x (rw e at h) .2)
+
+-- steps above steps
+pub walk-four : (p : List ℕ) (x b r : ℕ) → b ≡ walk p 2 x → r ≡ walk p 2 b → r ≡ walk p 4 x
 unfolding walk
-reaches-four {p} x b r c l e f h = reaches-of c l (walk-ends p 4 x (rw (f, e) at h) .2)
+walk-four p x b r e f = f ∙ ap (walk p 2) e
+
+pub walk-eight : (p : List ℕ) (x b r : ℕ) → b ≡ walk p 4 x → r ≡ walk p 4 b → r ≡ walk p 8 x
+unfolding walk
+walk-eight p x b r e f = f ∙ ap (walk p 4) e
 
 pub reaches-root : (p : List ℕ) (x : ℕ) → reachesRoot p x ≡ true → (d : ℕ) × (s : ℕ) × Root p d x s
 unfolding reachesRoot rootOf

@@ -67,8 +67,30 @@ fn two_up(parent: &[u32], i: u32) -> u32
     parent[k as usize]
 }
 
-// Whether each copy is at most four steps below its root, for parents that are all below n: as a scan leaves most lists. It writes nothing,
-// and no step turns on what an earlier copy led to, so it is the quicker test where it holds.
+fn four_up(parent: &[u32], i: u32) -> u32
+    requires { ⌜ allBelow (length (now parent)) (λ i. ltb (getD (now parent) i 0) (length (now parent))) ≡ true ⌝ }
+    requires { ⌜ i < length (now parent) ⌝ }
+    ensures { λ r. ⌜ (r ≡ walk (now (parent .entry)) 4 i) × (r < length (now (parent .entry))) ⌝ }
+{
+    two_up(parent, two_up(parent, i))
+}
+
+// Whether i is at most eight steps below its root. Four are enough for most copies, so that a processor foresees the branch.
+fn near_root(parent: &[u32], i: u32) -> bool
+    requires { ⌜ allBelow (length (now parent)) (λ i. ltb (getD (now parent) i 0) (length (now parent))) ≡ true ⌝ }
+    requires { ⌜ i < length (now parent) ⌝ }
+    ensures { λ r. ⌜ (r ≡ true → reachesRoot (now (parent .entry)) i ≡ true) ⌝ }
+{
+    let k = four_up(parent, i);
+    if parent[k as usize] == k {
+        return true;
+    }
+    let m = four_up(parent, k);
+    parent[m as usize] == m
+}
+
+// Whether each copy is at most eight steps below its root, for parents that are all below n: a scan leaves most lists so. It writes nothing, and no
+// step turns on what an earlier copy led to, so it is the quicker test where it holds.
 fn shallow(parent: &[u32]) -> bool
     requires { ⌜ allBelow (length (now parent)) (λ i. ltb (getD (now parent) i 0) (length (now parent))) ≡ true ⌝ }
     requires { ⌜ length (now parent) ≤ 4096 ⌝ }
@@ -76,8 +98,7 @@ fn shallow(parent: &[u32]) -> bool
 {
     let mut i = 0;
     while i < parent.len() {
-        let r = two_up(parent, two_up(parent, i as u32));
-        if parent[r as usize] != r {
+        if !near_root(parent, i as u32) {
             return false;
         }
         i += 1;

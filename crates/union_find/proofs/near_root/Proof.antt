@@ -1,0 +1,60 @@
+-- `union_find::near_root` meets its contract: a root four or eight steps above i is the root of i. Assumes nothing.
+use borrow.Author.Needs.{needs}
+use borrow.Author.Tests.{eqb-true}
+use Rattle.union_find.proofs.Forest.{closed-of}
+use Rattle.union_find.proofs.Trails.{reaches-walk, walk-eight}
+use Rattle.union_find.proofs.near_root.Statement.{statement}
+use Rattle.union_find.proofs.near_root.Tie as tie
+
+four-up-requires : tie.Need-four-up-requires
+four-up-requires c κs = search needs
+
+cast-if1 : tie.Need-cast-if1
+cast-if1 c = search needs
+
+mul-if1 : tie.Need-mul-if1
+mul-if1 c = search needs
+
+shared-slice-read-if1 : tie.Need-shared-slice-read-if1
+shared-slice-read-if1 c = search needs
+
+returns : tie.Need-returns
+returns c =
+    let far = c .before .before in
+    let st = far .before .before in
+    λ e. reaches-walk 4 (st .args .i) (far .four-up .result) (closed-of _ (st .pre .0)) (st .pre .1) (far .four-up .ensures .0) (c .if1 .taken)
+
+four-up-requires-2 : tie.Need-four-up-requires-2
+four-up-requires-2 c κs = search needs
+
+cast-result : tie.Need-cast-result
+cast-result c = search needs
+
+mul-result : tie.Need-mul-result
+mul-result c = search needs
+
+shared-slice-read-result : tie.Need-shared-slice-read-result
+shared-slice-read-result c = search needs
+
+returns-2 : tie.Need-returns-2
+returns-2 c =
+    let further = c .before in
+    let far = further .before .before .before in
+    let st = far .before .before in
+    λ e. reaches-walk 8 (st .args .i) (further .four-up2 .result) (closed-of _ (st .pre .0)) (st .pre .1)
+    (walk-eight _ _ _ _ (far .four-up .ensures .0) (further .four-up2 .ensures .0)) (eqb-true _ _ e)
+
+pub near-root-spec : {M : Type 1} → statement M
+near-root-spec =
+    tie.close
+    (tie.spec
+    four-up-requires
+    cast-if1
+    mul-if1
+    shared-slice-read-if1
+    returns
+    four-up-requires-2
+    cast-result
+    mul-result
+    shared-slice-read-result
+    returns-2)
