@@ -14,7 +14,7 @@ use Rattle.octree.specs.Tree.{Subtrees, Numbered, none, whereSome, subtr
 use Rattle.octree.specs.Inner.{Filled}
 use Rattle.cell.proofs.Tables.{placed-zero}
 use Rattle.octree.proofs.Filling.{numbers-length}
-use Rattle.octree.proofs.Growing.{no-points, some-points}
+use Rattle.octree.proofs.Children.{no-points, some-points}
 use Rattle.octree.proofs.Counting.{nodes-few}
 
 -- the six clauses of `build_tree`, for a tree t, a room, the answer r and what it leaves

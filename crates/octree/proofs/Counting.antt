@@ -1,8 +1,8 @@
 -- What holds of every tree: it has at most 15 nodes for each point, and every node has depth 14 at most and its points within the order
--- lists. Both by what is left of a node's lists (`brood`). Assumes nothing.
+-- lists. Both by the points of the octants from one on. Assumes nothing.
 use mathlib.Core.Path.{_≡_, sym, ap, subst, _∙_}
 use mathlib.Core.Logic.{⊎-elim}
-use mathlib.Core.Bool.{Bool, cond}
+use mathlib.Core.Bool.{Bool, true, false, cond}
 use mathlib.Core.List.{List, [], _∷_, _++_}
 use Prim.Native.Nat.{ℕ, zero, suc, _+_, _-_, _*_, _/_, _≤_, _<_}
 use native.Mathlib.Nat.{mul-add, suc-mul, eq-zero-or-pos}
@@ -11,13 +11,12 @@ use lib.ListN.{length, getD, length-append}
 use lib.Ieee.{Float}
 use Rattle.octree.specs.declared.bounds.OctreeBounds.{OctreeBounds}
 use Rattle.octree.specs.Bounds.{childOf}
-use Rattle.octree.specs.Split.{inOctant, octantPoints}
+use Rattle.octree.specs.Split.{octantPoints}
 use Rattle.octree.specs.Tree.{Node, Subtrees, Builder, none, whereSome, rooted, splits, childrenFrom, subtree, treeOf, pointNumbers}
-use Rattle.octree.specs.Inner.{otherPoints}
-use Rattle.octree.proofs.Selecting.{select-length}
+use Rattle.octree.specs.Inner.{listsFrom, byOctant}
 use Rattle.octree.proofs.Filling.{numbers-length}
-use Rattle.octree.proofs.Broods.{brood, brood-choice}
-use Rattle.octree.proofs.Growing.{no-points, some-points}
+use Rattle.octree.proofs.Arranging.{octants-length}
+use Rattle.octree.proofs.Children.{no-points, some-points}
 
 -- a law of subtrees goes from a builder to what it makes where there are points
 some-or-none : (P : Subtrees → Type 0) (go : Builder) (at fc fw : ℕ) (b : OctreeBounds) (cs ws : List ℕ)
@@ -35,30 +34,39 @@ module _ (C W : List Float) (go : Builder) (m : ℕ) (h : Few m go) where
       some-or-none (λ (g : Subtrees). length (g .nodes) ≤ m * (length cs + length ws)) go at fc fw b cs ws
       (λ e. rw (no-points go at fc fw b cs ws e) (omega arith)) (h at fc fw b cs ws)
 
-  brood-few : (left : ℕ) (b : OctreeBounds) (at fc fw : ℕ) (cs ws : List ℕ) → length (brood C W go left at fc fw b cs ws .nodes) ≤ m * (length cs + length ws)
-  unfolding brood
-  brood-few zero b at fc fw cs ws = omega arith
-  brood-few (suc l) b at fc fw cs ws =
+  children-few : (left at fc fw : ℕ) (b : OctreeBounds) (cs ws : List ℕ)
+      → length (childrenFrom C W go left at fc fw b cs ws .nodes) ≤ m * (length (listsFrom (byOctant C (b .center) cs) left) + length (listsFrom (byOctant W (b .center) ws) left))
+  unfolding childrenFrom listsFrom
+  children-few zero at fc fw b cs ws = omega arith
+  children-few (suc l) at fc fw b cs ws =
       let c = octantPoints C (b .center) (7 - l) cs in
       let w = octantPoints W (b .center) (7 - l) ws in
-      let c′ = otherPoints C (b .center) (7 - l) cs in
-      let w′ = otherPoints W (b .center) (7 - l) ws in
+      let c′ = listsFrom (byOctant C (b .center) cs) l in
+      let w′ = listsFrom (byOctant W (b .center) ws) l in
       let s = whereSome go at fc fw (childOf b (7 - l)) c w in
-      let r = brood C W go l (at + length (s .nodes)) (fc + length c) (fw + length w) b c′ w′ in
-      let k : length c + length w + (length c′ + length w′) ≡ length cs + length ws =
-      omega (arith, select-length (inOctant C (b .center) (7 - l)) cs, select-length (inOctant W (b .center) (7 - l)) ws) in
-      let e : m * (length cs + length ws) ≡ m * (length c + length w) + m * (length c′ + length w′) =
+      let r = childrenFrom C W go l (at + length (s .nodes)) (fc + length c) (fw + length w) b cs ws in
+      let k : length c + length w + (length c′ + length w′) ≡ length (c ++ c′) + length (w ++ w′) = omega (arith, length-append c c′, length-append w w′) in
+      let e : m * (length (c ++ c′) + length (w ++ w′)) ≡ m * (length c + length w) + m * (length c′ + length w′) =
       ap (λ (n : ℕ). m * n) (sym k) ∙ mul-add m (length c + length w) (length c′ + length w′) in
-      omega (arith, where-few at fc fw (childOf b (7 - l)) c w, brood-few l b (at + length (s .nodes)) (fc + length c) (fw + length w) c′ w′, e, length-append (s .nodes) (r .nodes))
+      omega (arith, where-few at fc fw (childOf b (7 - l)) c w, children-few l (at + length (s .nodes)) (fc + length c) (fw + length w) b cs ws, e, length-append (s .nodes) (r .nodes))
+
+  all-few : (at fc fw : ℕ) (b : OctreeBounds) (cs ws : List ℕ) → length (childrenFrom C W go 8 at fc fw b cs ws .nodes) ≤ m * (length cs + length ws)
+  all-few at fc fw b cs ws =
+      (rw (octants-length C (b .center) cs, octants-length W (b .center) ws) at (children-few 8 at fc fw b cs ws))
+
+either : (P : Subtrees → Type 0) (t : Bool) (x y : Subtrees) → P x → P y → P (cond t x y)
+either P true x y p q = p
+either P false x y p q = q
 
 subtree-few : (C W : List Float) (f : ℕ) → Few (suc f) (subtree C W f)
 unfolding subtree
 subtree-few C W zero at fc fw b cs ws h = omega arith
 subtree-few C W (suc f) at fc fw b cs ws h =
-    let t : Bool = splits b cs in
-    let k = brood-few C W (subtree C W f) (suc f) (subtree-few C W f) (cond t 8 0) b (at + 1) fc fw cs ws in
-    let e = ap (λ (g : Subtrees). length (g .nodes)) (brood-choice C W (subtree C W f) b cs ws t (at + 1) fc fw) in
-    omega (arith, k, e, suc-mul (suc f) (length cs + length ws))
+    let n = length cs + length ws in
+    let s = childrenFrom C W (subtree C W f) 8 (at + 1) fc fw b cs ws in
+    let k = either (λ (g : Subtrees). length (g .nodes) ≤ suc f * n) (splits b cs) s (none cs ws)
+    (all-few C W (subtree C W f) (suc f) (subtree-few C W f) (at + 1) fc fw b cs ws) (omega arith) in
+    omega (arith, k, suc-mul (suc f) n)
 
 pub nodes-few : (b : OctreeBounds) (C W : List Float) → length (treeOf b C W .nodes) ≤ 15 * (length C / 3 + length W / 3)
 unfolding treeOf
@@ -107,26 +115,30 @@ module _ (C W : List Float) (go : Builder) (h : Inside go) where
       some-or-none (λ (g : Subtrees). Every (NodeWithin fc (length cs) fw (length ws)) (g .nodes)) go at fc fw b cs ws
       (λ e. rw (no-points go at fc fw b cs ws e) (every-none (NodeWithin fc (length cs) fw (length ws)))) (λ p. h at fc fw b cs ws)
 
-  brood-inside : (left : ℕ) → Inside (brood C W go left)
-  unfolding brood
-  brood-inside zero at fc fw b cs ws = every-none (NodeWithin fc (length cs) fw (length ws))
-  brood-inside (suc l) at fc fw b cs ws =
+  children-inside : (left at fc fw : ℕ) (b : OctreeBounds) (cs ws : List ℕ)
+      → Every (NodeWithin fc (length (listsFrom (byOctant C (b .center) cs) left)) fw (length (listsFrom (byOctant W (b .center) ws) left))) (childrenFrom C W go left at fc fw b cs ws .nodes)
+  unfolding childrenFrom listsFrom
+  children-inside zero at fc fw b cs ws = every-none (NodeWithin fc 0 fw 0)
+  children-inside (suc l) at fc fw b cs ws =
       let c = octantPoints C (b .center) (7 - l) cs in
       let w = octantPoints W (b .center) (7 - l) ws in
-      let c′ = otherPoints C (b .center) (7 - l) cs in
-      let w′ = otherPoints W (b .center) (7 - l) ws in
+      let c′ = listsFrom (byOctant C (b .center) cs) l in
+      let w′ = listsFrom (byOctant W (b .center) ws) l in
       let s = whereSome go at fc fw (childOf b (7 - l)) c w in
-      let r = brood C W go l (at + length (s .nodes)) (fc + length c) (fw + length w) b c′ w′ in
-      let kc = select-length (inOctant C (b .center) (7 - l)) cs in
-      let kw = select-length (inOctant W (b .center) (7 - l)) ws in
-      let P = NodeWithin fc (length cs) fw (length ws) in
+      let r = childrenFrom C W go l (at + length (s .nodes)) (fc + length c) (fw + length w) b cs ws in
+      let kc = length-append c c′ in
+      let kw = length-append w w′ in
+      let P = NodeWithin fc (length (c ++ c′)) fw (length (w ++ w′)) in
       every-append P (s .nodes) (r .nodes)
       (every-weaker (NodeWithin fc (length c) fw (length w)) P (s .nodes)
-      (wider fc (length cs) fw (length ws) fc (length c) fw (length w) (omega arith) (omega (arith, kc)) (omega arith) (omega (arith, kw)))
+      (wider fc (length (c ++ c′)) fw (length (w ++ w′)) fc (length c) fw (length w) (omega arith) (omega (arith, kc)) (omega arith) (omega (arith, kw)))
       (where-inside at fc fw (childOf b (7 - l)) c w))
       (every-weaker (NodeWithin (fc + length c) (length c′) (fw + length w) (length w′)) P (r .nodes)
-      (wider fc (length cs) fw (length ws) (fc + length c) (length c′) (fw + length w) (length w′) (omega arith) (omega (arith, kc)) (omega arith) (omega (arith, kw)))
-      (brood-inside l (at + length (s .nodes)) (fc + length c) (fw + length w) b c′ w′))
+      (wider fc (length (c ++ c′)) fw (length (w ++ w′)) (fc + length c) (length c′) (fw + length w) (length w′) (omega arith) (omega (arith, kc)) (omega arith) (omega (arith, kw)))
+      (children-inside l (at + length (s .nodes)) (fc + length c) (fw + length w) b cs ws))
+
+  all-inside : Inside (childrenFrom C W go 8)
+  all-inside at fc fw b cs ws = (rw (octants-length C (b .center) cs, octants-length W (b .center) ws) at (children-inside 8 at fc fw b cs ws))
 
 root-inside : (d at fc fw : ℕ) (b : OctreeBounds) (cs ws : List ℕ) (below : Subtrees) → d ≤ 14
     → Every (NodeWithin fc (length cs) fw (length ws)) (below .nodes) → Every (NodeWithin fc (length cs) fw (length ws)) (rooted d at fc fw b cs ws below .nodes)
@@ -139,8 +151,8 @@ unfolding subtree
 subtree-inside C W zero at fc fw b cs ws = root-inside 14 at fc fw b cs ws (none cs ws) (omega arith) (every-none (NodeWithin fc (length cs) fw (length ws)))
 subtree-inside C W (suc f) at fc fw b cs ws =
     root-inside (14 - suc f) at fc fw b cs ws (cond (splits b cs) (childrenFrom C W (subtree C W f) 8 (at + 1) fc fw b cs ws) (none cs ws)) (omega arith)
-    (subst (λ (g : Subtrees). Every (NodeWithin fc (length cs) fw (length ws)) (g .nodes)) (brood-choice C W (subtree C W f) b cs ws (splits b cs) (at + 1) fc fw)
-    (brood-inside C W (subtree C W f) (subtree-inside C W f) (cond (splits b cs) 8 0) (at + 1) fc fw b cs ws))
+    (either (λ (g : Subtrees). Every (NodeWithin fc (length cs) fw (length ws)) (g .nodes)) (splits b cs) (childrenFrom C W (subtree C W f) 8 (at + 1) fc fw b cs ws) (none cs ws)
+    (all-inside C W (subtree C W f) (subtree-inside C W f) (at + 1) fc fw b cs ws) (every-none (NodeWithin fc (length cs) fw (length ws))))
 
 pub nodes-within : (b : OctreeBounds) (C W : List Float) → Every (NodeWithin 0 (length C / 3) 0 (length W / 3)) (treeOf b C W .nodes)
 unfolding treeOf

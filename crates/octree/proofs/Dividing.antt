@@ -1,8 +1,8 @@
 -- How many octants a node visits: 8 where it splits, above depth 14. Assumes nothing.
 use mathlib.Core.Path.{_≡_, refl, sym, _∙_}
-use mathlib.Core.Bool.{true, false, cond, and-false}
+use mathlib.Core.Bool.{Bool, true, false, cond, and-false}
 use mathlib.Core.List.{List}
-use Prim.Native.Nat.{ℕ, suc, _-_, _≤_, _<_}
+use Prim.Native.Nat.{ℕ, zero, suc, _-_, _≤_, _<_}
 use native.Mathlib.Omega.{arith}
 use lib.Dec.{ltb}
 use lib.ListN.{length}
@@ -15,6 +15,16 @@ use Rattle.octree.specs.Inner.{octantsOf}
 octants-suc : (f g : ℕ) (cs : List ℕ) (b : OctreeBounds) → f ≡ suc g → octantsOf f cs b ≡ cond (splits b cs) 8 0
 unfolding octantsOf
 octants-suc f g cs b e = rw e refl
+
+cond-eight : (t : Bool) → (_≡_ {A = ℕ} (cond t 8 0) 0 → ⊥) → _≡_ {A = ℕ} (cond t 8 0) 8
+cond-eight true h = refl
+cond-eight false h = absurd (h refl)
+
+-- some are all
+pub octants-eight : (f : ℕ) (cs : List ℕ) (b : OctreeBounds) → (octantsOf f cs b ≡ 0 → ⊥) → octantsOf f cs b ≡ 8
+unfolding octantsOf
+octants-eight zero cs b h = absurd (h refl)
+octants-eight (suc f) cs b h = cond-eight (splits b cs) h
 
 pub octants-bottom : (d : ℕ) (cs : List ℕ) (b : OctreeBounds) → 14 ≤ d → 0 ≡ octantsOf (14 - d) cs b
 unfolding octantsOf

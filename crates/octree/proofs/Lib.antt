@@ -1,7 +1,11 @@
 -- The laws that the proofs of this crate and of the layers above it cite.
 -- ---- lists and tables
--- selections of a list, and the loop that sifts a list in two
+-- selections of a list, and a list copied
 pub mod Selecting
+-- lists one after the other by octant
+pub mod Arranging
+-- the counting sort by octant
+pub mod Sorting
 -- loops that write element i at turn i
 pub mod Filling
 -- a list written into a table from an entry on
@@ -11,13 +15,13 @@ pub mod NodeTables
 -- ---- the tree
 -- how many octants a node visits
 pub mod Dividing
--- a node's children by what is left of its lists, as the builder visits them
-pub mod Broods
+-- subtrees side by side, and what stands below a node by the octants that it visits
+pub mod Children
 -- how many nodes a tree has, and what holds of each
 pub mod Counting
 -- ---- the builder
--- an order list after a gather: the child's stretch of it
-pub mod Gathering
+-- a child's stretch of an order list
+pub mod Stretches
 -- the octant loop
 pub mod Growing
 -- the end of the loop, and what an answer tells

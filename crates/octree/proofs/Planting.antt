@@ -10,16 +10,15 @@ use lib.Ieee.{Float}
 use Rattle.cell.specs.Tables.{placed}
 use Rattle.octree.specs.declared.Built as Built
 use Rattle.octree.specs.declared.Built.{Built}
-use Rattle.octree.specs.Tree.{Node, Subtrees, none, join, rooted, deepest, cornersOf, recordsOf, boxesOf}
-use Rattle.octree.specs.Inner.{Filled, Planted}
+use Rattle.octree.specs.Tree.{Node, Subtrees, none, join, childrenFrom, rooted, deepest, cornersOf, recordsOf, boxesOf}
+use Rattle.octree.specs.Inner.{listsFrom, Filled, Planted}
 use Rattle.octree.proofs.Placing.{eight, placed-before}
 use Rattle.octree.proofs.NodeTables.{records-length, boxes-length}
-use Rattle.octree.proofs.Broods.{brood}
-use Rattle.octree.proofs.Growing.{Site, Turn, Growing, wholeOf}
+use Rattle.octree.proofs.Growing.{Site, Turn, Growing, wholeOf, laterC, laterW}
 
 module _ (S : Site) (T : Turn) (z : Growing S T) (no-turn : T .left ≡ 0) (rr : S .room * 8 ≤ length (S .rec₀)) (rb : S .room * 6 ≤ length (S .box₀)) where
-  last : join (z .done) (none (z .csLeft) (z .wsLeft)) ≡ wholeOf S
-  unfolding brood
+  last : join (z .done) (none (laterC S 0) (laterW S 0)) ≡ wholeOf S
+  unfolding childrenFrom listsFrom
   last = (rw no-turn at (z .total))
 
   nodes-are : z .done .nodes ≡ wholeOf S .nodes
@@ -65,8 +64,8 @@ module _ (S : Site) (T : Turn) (z : Growing S T) (no-turn : T .left ≡ 0) (rr :
         omega (arith, next-is, z .within),
         record {
           answer = ap (λ (y : ℕ). Built.Nodes y (T .deep)) all-next ∙ ap (Built.Nodes (S .at + suc (length (wholeOf S .nodes)))) deep-is;
-          order-c = z .order-c ∙ ap (λ (g : Subtrees). g .centerOrder) last;
-          order-w = z .order-w ∙ ap (λ (g : Subtrees). g .waterOrder) last;
+          order-c = (rw no-turn at (z .order-c)) ∙ ap (λ (g : Subtrees). g .centerOrder) last;
+          order-w = (rw no-turn at (z .order-w)) ∙ ap (λ (g : Subtrees). g .waterOrder) last;
           table = u ∙ ap (λ (y : List ℕ). placed (S .at * 8) y (T .rec)) (eight refl refl p refl q roots-are next-is) ∙ table-is;
           corners = v ∙ corners-are;
         },

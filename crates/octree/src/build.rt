@@ -3,12 +3,12 @@ use crate::Built;
 use crate::MAX_DEPTH;
 use crate::bounds::OctreeBounds;
 use crate::node::put_node;
-use crate::split::gather;
+use crate::split::arrange;
 ghost use mathlib.Core.Path.{_≡_};
 ghost use Prim.Native.Nat.{_≤_, _<_, _-_, max};
 ghost use lib.ListN.{length};
 ghost use Rattle.octree.specs.Tree.{maxDepth, subtree};
-ghost use Rattle.octree.specs.Inner.{octantsOf, Ready, Planted};
+ghost use Rattle.octree.specs.Inner.{octantsOf, Sortable, Divided, Ready, Planted};
 
 fn larger(a: usize, b: usize) -> usize
     ensures { λ r. ⌜ r ≡ max a b ⌝ }
@@ -33,6 +33,37 @@ fn octants(depth: usize, order: &[u32], b: OctreeBounds) -> usize
     0
 }
 
+// Where a node splits, arranges both order lists by octant and counts each octant's points. Answers how many octants there are to visit.
+fn divide(
+    depth: usize,
+    b: OctreeBounds,
+    centers: &[f32],
+    waters: &[f32],
+    corder: &mut [u32],
+    worder: &mut [u32],
+    ccounts: &mut [usize; 8],
+    wcounts: &mut [usize; 8],
+    scratch: &mut [u32],
+    codes: &mut [u8],
+) -> usize
+    requires { ⌜ depth ≤ maxDepth ⌝ }
+    requires { ⌜ Sortable (now corder) (now ccounts) (length (now scratch)) (length (now codes)) ⌝ }
+    requires { ⌜ Sortable (now worder) (now wcounts) (length (now scratch)) (length (now codes)) ⌝ }
+    ensures is { λ r. ⌜ r ≡ octantsOf (maxDepth - depth) (now (corder .entry)) b ⌝ }
+    ensures small { λ r. ⌜ r ≤ 8 ⌝ }
+    ensures deep { λ r. ⌜ (0 < r → depth < maxDepth) ⌝ }
+    ensures centers { λ r. ⌜ Divided (now (centers .entry)) (b .center) r (now (corder .entry)) (now (corder .exit)) (now (ccounts .exit)) ⌝ }
+    ensures waters { λ r. ⌜ Divided (now (waters .entry)) (b .center) r (now (worder .entry)) (now (worder .exit)) (now (wcounts .exit)) ⌝ }
+{
+    let left = octants(depth, corder, b);
+    if left == 0 {
+        return 0;
+    }
+    arrange(corder, centers, b.center, ccounts, scratch, codes);
+    arrange(worder, waters, b.center, wcounts, scratch, codes);
+    left
+}
+
 // Builds the subtree of a box. Its centers and waters are the two order lists, whose first entries are number fc and fw of the whole.
 // Its nodes are numbered from `at` on, and there is room for `room` in all. Answers the number after its nodes and the greatest depth.
 pub(crate) fn build(
@@ -49,8 +80,9 @@ pub(crate) fn build(
     at: usize,
     room: usize,
     scratch: &mut [u32],
+    codes: &mut [u8],
 ) -> Built
-    requires { ⌜ Ready depth (length (now corder)) (length (now worder)) fc fw (length (now records)) (length (now boxes)) room (length (now scratch)) ⌝ }
+    requires { ⌜ Ready depth (length (now corder)) (length (now worder)) fc fw (length (now records)) (length (now boxes)) room (length (now scratch)) (length (now codes)) ⌝ }
     ensures { λ r. ⌜ Planted room (subtree (now (centers .entry)) (now (waters .entry)) (maxDepth - depth) at fc fw b (now (corder .entry)) (now (worder .entry))) at r
         (now (corder .exit)) (now (worder .exit)) (now (records .entry)) (now (records .exit)) (now (boxes .entry)) (now (boxes .exit)) ⌝ }
 {
@@ -62,12 +94,25 @@ pub(crate) fn build(
     let mut children = 0;
     let mut ca = 0; // centers that children have so far, and waters
     let mut wa = 0;
-    let mut left = octants(depth, corder, b);
+    let mut ccounts = [0usize; 8]; // centers of each octant, and waters
+    let mut wcounts = [0usize; 8];
+    let mut left = divide(
+        depth,
+        b,
+        centers,
+        waters,
+        corder,
+        worder,
+        &mut ccounts,
+        &mut wcounts,
+        scratch,
+        codes,
+    );
     while 0 < left {
         let o = 8 - left;
         left -= 1;
-        let nc = gather(corder, ca, centers, b.center, o, scratch);
-        let nw = gather(worder, wa, waters, b.center, o, scratch);
+        let nc = ccounts[o];
+        let nw = wcounts[o];
         if nc + nw == 0 {
             continue;
         }
@@ -87,6 +132,7 @@ pub(crate) fn build(
             next,
             room,
             scratch,
+            codes,
         ) else {
             return Built::Full;
         };

@@ -84,6 +84,7 @@ pub fn build_tree(
     let tables = smaller(records.len() / 8, boxes.len() / 6);
     let room = smaller(smaller(tables, limit), MOST_NODES);
     let mut scratch = [0u32; MAX_ATOMS];
+    let mut codes = [0u8; MAX_ATOMS];
     let r = build::build(
         bounds,
         0,
@@ -98,6 +99,7 @@ pub fn build_tree(
         0,
         room,
         &mut scratch,
+        &mut codes,
     );
     if let Built::Full = r {
         reset(center_order, water_order, records, boxes);

@@ -1,10 +1,11 @@
-// Stable splitting of an order list by octant (document 01, 'Octree'), linear in the points.
+// Stable splitting of an order list by octant (document 01, 'Octree'): a counting sort, linear in the points.
 use cell::Vec3;
 ghost use mathlib.Core.Path.{_≡_};
-ghost use Prim.Native.Nat.{_≤_};
-ghost use lib.ListN.{length, take};
+ghost use Prim.Native.Nat.{ℕ, _≤_, _<_};
+ghost use lib.ListN.{length, take, getD, replicate};
+ghost use Rattle.cell.specs.Limits.{maxAtoms};
 ghost use Rattle.octree.specs.Bounds.{aboveOf, octantAt};
-ghost use Rattle.octree.specs.Inner.{Sifted, Gathered};
+ghost use Rattle.octree.specs.Inner.{sumBefore, listsFrom, beside, Tallied, Dealable, Sortable, Arranged};
 
 // 1 where a coordinate is strictly above the center's.
 fn above(p: f32, c: f32) -> usize
@@ -28,56 +29,91 @@ fn octant(points: &[f32], center: Vec3, v: u32) -> usize
     }
 }
 
-// Moves the points of `order` that lie in octant o to its front, and the others to the front of `scratch`, each in their order.
-// Answers how many lie in octant o.
-fn sift(order: &mut [u32], points: &[f32], center: Vec3, o: usize, scratch: &mut [u32]) -> usize
-    requires { ⌜ length (now order) ≤ length (now scratch) ⌝ }
-    ensures { λ r. ⌜ Sifted (now (points .entry)) center o (now (order .entry)) (now (order .exit)) (now (scratch .exit)) r ⌝ }
+// An octant as a byte of a table, and back.
+fn byte(o: usize) -> u8
+    requires { ⌜ o < 8 ⌝ }
+    ensures { λ r. ⌜ r ≡ o ⌝ }
 {
-    let mut n = 0;
-    let mut m = 0;
-    let mut i = 0;
-    while i < order.len() {
-        let v = order[i];
-        if octant(points, center, v) == o {
-            order[n] = v;
-            n += 1;
-        } else {
-            scratch[m] = v;
-            m += 1;
-        }
-        i += 1;
-    }
-    n
+    o as u8
 }
 
-// Copies as many numbers of src as dst has room for.
+fn wide(code: u8) -> usize
+    ensures { λ r. ⌜ r ≡ code ⌝ }
+{
+    code as usize
+}
+
+// Notes the octant of each point of `order`, and adds up how many points each octant has.
+fn tally(order: &[u32], points: &[f32], center: Vec3, codes: &mut [u8], counts: &mut [usize; 8])
+    requires { ⌜ (length (now order) ≤ length (now codes)) × (now counts ≡ replicate 8 0) ⌝ }
+    ensures { λ _. ⌜ Tallied (now (points .entry)) center (now (order .entry)) (now (codes .exit)) (now (counts .exit)) ⌝ }
+{
+    let mut i = 0;
+    while i < order.len() {
+        let o = octant(points, center, order[i]);
+        codes[i] = byte(o);
+        counts[o] += 1;
+        i += 1;
+    }
+}
+
+// The first place of each octant, where they follow each other.
+fn firsts(counts: &[usize; 8], places: &mut [usize; 8])
+    requires { ⌜ (sumBefore (λ o. getD (now counts) o 0) 8 ≤ maxAtoms) × (length (now places) ≡ 8) ⌝ }
+    ensures eight { λ _. ⌜ length (now (places .exit)) ≡ 8 ⌝ }
+    ensures sums { λ _. ⌜ ((o : ℕ) → o < 8 → getD (now (places .exit)) o 0 ≡ sumBefore (λ k. getD (now (counts .entry)) k 0) o) ⌝ }
+{
+    let mut at = 0;
+    let mut o = 0;
+    while o < 8 {
+        places[o] = at;
+        at += counts[o];
+        o += 1;
+    }
+}
+
+// Copies src to the front of dst.
 fn paste(dst: &mut [u32], src: &[u32])
-    requires { ⌜ length (now dst) ≤ length (now src) ⌝ }
-    ensures { λ _. ⌜ now (dst .exit) ≡ take (length (now (dst .entry))) (now (src .entry)) ⌝ }
+    requires { ⌜ length (now src) ≤ length (now dst) ⌝ }
+    ensures { λ _. ⌜ take (length (now (src .entry))) (now (dst .exit)) ≡ now (src .entry) ⌝ }
 {
     let mut j = 0;
-    while j < dst.len() {
+    while j < src.len() {
         dst[j] = src[j];
         j += 1;
     }
 }
 
-// Rearranges `order` from entry `from` on: the points in octant o first, then the others, each in their order. Answers how many lie in
-// octant o.
-pub(crate) fn gather(
+// Puts each saved point at the next place of its octant.
+fn deal(saved: &[u32], codes: &[u8], places: &mut [usize; 8], order: &mut [u32])
+    requires { ⌜ Dealable (now codes) (now saved) (length (now order)) (now places) ⌝ }
+    ensures { λ _. ⌜ now (order .exit) ≡ listsFrom (beside (now (codes .entry)) (now (saved .entry)) (length (now (order .entry)))) 8 ⌝ }
+{
+    let mut i = 0;
+    while i < order.len() {
+        let o = wide(codes[i]);
+        let at = places[o];
+        order[at] = saved[i];
+        places[o] = at + 1;
+        i += 1;
+    }
+}
+
+// Rearranges `order`: the points by rising octant, each octant's in their order. Counts each octant's points.
+pub(crate) fn arrange(
     order: &mut [u32],
-    from: usize,
     points: &[f32],
     center: Vec3,
-    o: usize,
+    counts: &mut [usize; 8],
     scratch: &mut [u32],
-) -> usize
-    requires { ⌜ (from ≤ length (now order)) × (length (now order) ≤ length (now scratch)) ⌝ }
-    ensures { λ r. ⌜ Gathered (now (points .entry)) center o from (now (order .entry)) (now (order .exit)) r ⌝ }
+    codes: &mut [u8],
+)
+    requires { ⌜ Sortable (now order) (now counts) (length (now scratch)) (length (now codes)) ⌝ }
+    ensures { λ _. ⌜ Arranged (now (points .entry)) center (now (order .entry)) (now (order .exit)) (now (counts .exit)) ⌝ }
 {
-    let n = sift(&mut order[from..], points, center, o, scratch);
-    let end = from + n;
-    paste(&mut order[end..], scratch);
-    n
+    paste(scratch, order);
+    tally(order, points, center, codes, counts);
+    let mut places = [0usize; 8];
+    firsts(counts, &mut places);
+    deal(scratch, codes, &mut places, order);
 }

@@ -35,16 +35,16 @@ counted-w c = c .before .before .count-up2 .kept .0
 
 -- ---- after the builder came back: `built` is its call, `roomed` the room that it was given
 abbrev Back : Type 0
-Back = tie.After-scratch2
+Back = tie.After-codes2
 
 abbrev built : Back → tie.After-build
-built c = c .before .before .before .before .before .before .before .before .before
+built c = c .before .before .before .before .before .before .before .before .before .before
 
 abbrev roomed : Back → tie.After-smaller3
-roomed c = c .before .before .before .before .before .before .before .before .before .before .before .before .before .before .before
+roomed c = c .before .before .before .before .before .before .before .before .before .before .before .before .before .before .before .before .before
 
 abbrev counted : Back → Counted
-counted c = c .before .before .before .before .before .before .before .before .before .before .before .before .before .before .before .before .before .before .before
+counted c = c .before .before .before .before .before .before .before .before .before .before .before .before .before .before .before .before .before .before .before .before .before
 
 room-is : (c : Back) → roomed c .smaller3 .result ≡ min (room (counted c)) 1966080
 room-is c =
@@ -59,7 +59,7 @@ planted c =
     let k = counted c in
     let g = start k .args in
     let pre = start k .pre in
-    let some = c .before .before .before .before .before .before .before .before .before .before .before .before .before .before .before .before .before .before .if1 .left in
+    let some = c .before .before .before .before .before .before .before .before .before .before .before .before .before .before .before .before .before .before .before .before .if1 .left in
     planted-at _ _ _ _ _ _ _ _ _ _ (tree k)
     (tree-some (g .bounds) (g .centers .now) (g .waters .now) (g .center-order .now) (g .water-order .now) (pre .0) (pre .1)
     (λ e. some (omega (arith, e, counted-c k, counted-w k))) _ _ (k .before .before .before .before .before .before .count-up .ensures) (k .before .before .count-up2 .ensures))
@@ -134,6 +134,7 @@ build-tree-spec =
     (λ c κs. search needs)
     (λ c κs. search needs)
     (λ c κs. search needs)
+    (λ c. search needs)
     (λ c. search needs)
     (λ c κs. search needs)
     (λ c. search needs)
