@@ -67,6 +67,7 @@ fn two_up(parent: &[u32], i: u32) -> u32
     parent[k as usize]
 }
 
+// The same, four steps above i.
 fn four_up(parent: &[u32], i: u32) -> u32
     requires { ⌜ allBelow (length (now parent)) (λ i. ltb (getD (now parent) i 0) (length (now parent))) ≡ true ⌝ }
     requires { ⌜ i < length (now parent) ⌝ }
