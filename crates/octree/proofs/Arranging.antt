@@ -64,7 +64,7 @@ unfolding sumBefore
 sum-same n m zero e = refl
 sum-same n m (suc k) e = omega (arith, sum-same n m k (λ o h. e o (omega arith)), e k (omega arith))
 
--- one more at k
+-- one more at k is one more in what comes before any later m
 sum-bit : (k m : ℕ) → cond (ltb k m) 1 0 + cond (eqb k m) 1 0 ≡ cond (ltb k (suc m)) 1 0
 sum-bit k m =
     ⊎-elim
@@ -80,6 +80,7 @@ sum-one n m k e zero = rw (le-ltb k 0 (omega arith)) refl
 sum-one n m k e (suc j) = omega (arith, sum-one n m k e j, e j, sum-bit k j)
 
 -- ---- lists one after the other
+-- the lists before, and those from there on, are as long as all eight
 lists-sum : (f : ℕ → List ℕ) (left : ℕ) → left ≤ 8 → sumBefore (λ o. length (f o)) (8 - left) + length (listsFrom f left) ≡ sumBefore (λ o. length (f o)) 8
 unfolding listsFrom
 lists-sum f zero h = omega arith
@@ -114,7 +115,7 @@ module _ (f : ℕ → List ℕ) (x : List ℕ) (all : length x ≡ sumBefore (λ
   pub lists-whole : x ≡ listsFrom f 8
   lists-whole = ap (λ (i : ℕ). drop i x) (sym (sum-start (λ o. length (f o)))) ∙ lists-rest 8 (omega arith)
 
--- a list of points by octant has them all
+-- ---- a list of points by octant has them all
 cons-length : (t : Bool) (v : ℕ) (x : List ℕ) → length (cond t (v ∷ x) x) ≡ length x + cond t 1 0
 cons-length true v x = omega arith
 cons-length false v x = omega arith

@@ -29,7 +29,7 @@ unfoldable pub listsFrom : (ℕ → List ℕ) → ℕ → List ℕ
 listsFrom f zero = []
 listsFrom f (suc left) = f (7 - left) ++ listsFrom f left
 
--- the first n of vs beside which ks says o, in their order
+-- of the first n numbers of vs those beside which ks has o, in their order
 unfoldable pub beside : List ℕ → List ℕ → ℕ → ℕ → List ℕ
 beside ks vs zero o = []
 beside ks vs (suc n) o = cond (eqb (getD ks n 0) o) (beside ks vs n o ++ (getD vs n 0 ∷ [])) (beside ks vs n o)
@@ -63,7 +63,7 @@ pub record Arranged (points : List Float) (c : Vec3) (l₀ l counts : List ℕ) 
   pub order : l ≡ listsFrom (byOctant points c l₀) 8
   pub count : (o : ℕ) → o < 8 → getD counts o 0 ≡ length (octantPoints points c o l₀)
 
--- the list of a node that visits r octants: it stays where the node does not split
+-- what stays of the list of a node that visits r octants: all where it does not split, else nothing
 unfoldable pub unsplit : ℕ → List ℕ → List ℕ
 unsplit zero l = l
 unsplit (suc r) l = []
