@@ -19,7 +19,7 @@
  * room. No call keeps anything between calls, allocates, or prints, so calls on different tables may run at the same time.
  *
  * Stack, beside the lent tables, measured at the limits: Select, Open and Centers under 4 KB; Row 17 KB (16,384 bytes of arrays);
- * Close 33 KB (32,768); Dispersion 50 KB (49,152); Tree and Report 1.11 MB (1,097,728); the whole frame 1.22 MB (1,212,416).
+ * Close 33 KB (32,768); Dispersion 50 KB (49,152); Tree and Report 1.18 MB (1,163,264); the whole frame 1.29 MB (1,277,952).
  */
 #ifndef BAITHRUM_H
 #define BAITHRUM_H
