@@ -16,8 +16,13 @@ use Rattle.numbers.proofs.Monotone.{sub-mono}
 use Rattle.cell.specs.declared.Cell.{Cell}
 use Rattle.cell.specs.declared.Vec3.{Vec3}
 use Rattle.cell.specs.Cell.{extentOf, minus, pointAt, finitePoint}
-use Rattle.touch.specs.Touch.{near, anyIn, anyPair}
+use Rattle.selection.specs.Selection.{finiteAtom}
+use Rattle.selection.specs.Sound.{copiesIn, pickList, soundLists}
+use Rattle.selection.proofs.SoundLists.{sound-lists}
+use Rattle.selection.proofs.CopyPicks.{copy-some, copy-finite}
+use Rattle.touch.specs.Touch.{near, anyIn, anyPair, copiesTouch}
 use Rattle.touch.proofs.Any.{any-none}
+use Rattle.gates.specs.declared.Gate.{Gate}
 use Rattle.gates.specs.declared.Gates.{Gates}
 use Rattle.gates.specs.Gates.{gateOf, gatesOf, farOf, tested}
 use Rattle.gates.proofs.Order.{le-refl-finite}
@@ -155,25 +160,36 @@ pub apart-spans : (c : Cell) (xs : List Float) (ps qs : List ℕ) (g : Gates) (b
     → g ≡ gatesOf (extentOf c) → b ≡ spanOf xs ps → s ≡ spanOf xs qs → apartOf g b s ≡ true → anyPair (near (extentOf c) xs) ps qs ≡ false
 apart-spans c xs ps qs g b s h some any f k eg eb es t = apart-lists c xs ps qs h some any f k (rw (eg, eb, es) at t)
 
-or-right : (a b : Bool) → b ≡ true → (a || b) ≡ true
-or-right true b h = refl
-or-right false b h = h
+-- ... of copies i and j of sound pick lists
+pub apart-copies : (c : Cell) (xs : List Float) (starts picks : List ℕ) (i j : ℕ) (g : Gates) (b s : Span) → soundLists xs starts picks ≡ true → tested c xs ≡ true
+    → i < copiesIn starts → j < copiesIn starts → g ≡ gatesOf (extentOf c) → b ≡ spanOf xs (pickList starts picks i) → s ≡ spanOf xs (pickList starts picks j)
+    → apartOf g b s ≡ true → copiesTouch c xs starts picks i j ≡ false
+unfolding copiesTouch finiteAtom
+apart-copies c xs starts picks i j g b s sound h li lj eg eb es t =
+    let l = sound-lists xs starts picks sound in
+    apart-spans c xs (pickList starts picks i) (pickList starts picks j) g b s h (copy-some xs starts picks l i li) (copy-some xs starts picks l j lj)
+    (copy-finite xs starts picks l i li) (copy-finite xs starts picks l j lj) eg eb es t
 
--- one axis of the box of qs is enough, with ends lo and hi
-module _ (g : Gates) (s : Span) (xs : List Float) (qs : List ℕ) (t : Bool) (lo hi : Float) (on : t ≡ true) where
-  pub by-x : lo ≡ leastOf xs 0 qs → hi ≡ greatestOf xs 0 qs → t ≡ farOf (g .x) (sub binary32 lo (s .high .x)) (sub binary32 hi (s .low .x)) → apartOf g s (spanOf xs qs) ≡ true
-  unfolding apartOf spanOf
-  by-x el eh et = rw (rw (el, eh) at (sym et ∙ on))
+-- ---- the boxes' axes one after the other: what an axis says of the ends lo and hi of one box, with its gate, and low and high of the other
+abbrev axisFar : Gate → Float → Float → Float → Float → Bool
+axisFar g lo hi low high = farOf g (sub binary32 lo high) (sub binary32 hi low)
 
-  pub by-y : lo ≡ leastOf xs 1 qs → hi ≡ greatestOf xs 1 qs → t ≡ farOf (g .y) (sub binary32 lo (s .high .y)) (sub binary32 hi (s .low .y)) → apartOf g s (spanOf xs qs) ≡ true
+-- x, y and z are what the axes say; one that was not worked out is as the definition has it
+module _ (g : Gates) (s : Span) (xs : List Float) (qs : List ℕ) (x : Bool) (is-x : x ≡ axisFar (g .x) (leastOf xs 0 qs) (greatestOf xs 0 qs) (s .low .x) (s .high .x)) where
+  apart-is : (y z : Bool) → y ≡ axisFar (g .y) (leastOf xs 1 qs) (greatestOf xs 1 qs) (s .low .y) (s .high .y)
+      → z ≡ axisFar (g .z) (leastOf xs 2 qs) (greatestOf xs 2 qs) (s .low .z) (s .high .z) → apartOf g s (spanOf xs qs) ≡ (x || (y || z))
   unfolding apartOf spanOf
-  by-y el eh et = or-right (farOf (g .x) (sub binary32 (leastOf xs 0 qs) (s .high .x)) (sub binary32 (greatestOf xs 0 qs) (s .low .x))) _ (rw (rw (el, eh) at (sym et ∙ on)))
+  apart-is y z is-y is-z = rw (is-x, is-y, is-z) refl
 
-  pub by-z : lo ≡ leastOf xs 2 qs → hi ≡ greatestOf xs 2 qs → t ≡ farOf (g .z) (sub binary32 lo (s .high .z)) (sub binary32 hi (s .low .z)) → apartOf g s (spanOf xs qs) ≡ true
-  unfolding apartOf spanOf
-  by-z el eh et =
-      or-right (farOf (g .x) (sub binary32 (leastOf xs 0 qs) (s .high .x)) (sub binary32 (greatestOf xs 0 qs) (s .low .x))) _
-      (or-right (farOf (g .y) (sub binary32 (leastOf xs 1 qs) (s .high .y)) (sub binary32 (greatestOf xs 1 qs) (s .low .y))) _ (rw (el, eh) at (sym et ∙ on)))
+  pub by-x : x ≡ true → true ≡ apartOf g s (spanOf xs qs)
+  by-x on = sym (apart-is _ _ refl refl ∙ rw on refl)
+
+  module _ (off : x ≡ false) (y : Bool) (is-y : y ≡ axisFar (g .y) (leastOf xs 1 qs) (greatestOf xs 1 qs) (s .low .y) (s .high .y)) where
+    pub by-y : y ≡ true → true ≡ apartOf g s (spanOf xs qs)
+    by-y on = sym (apart-is y _ is-y refl ∙ rw (off, on) refl)
+
+    pub by-z : y ≡ false → (z : Bool) → z ≡ axisFar (g .z) (leastOf xs 2 qs) (greatestOf xs 2 qs) (s .low .z) (s .high .z) → z ≡ apartOf g s (spanOf xs qs)
+    by-z out z is-z = sym (apart-is y z is-y is-z ∙ rw (off, out) refl)
 
 -- a flag that is not 0
 pub flagged : (t : Bool) (m : ℕ) → m ≡ cond t 1 0 → (m ≡ 0 → ⊥) → t ≡ true

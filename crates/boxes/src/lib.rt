@@ -262,57 +262,49 @@ pub fn span_of(xs: &[f32], a: &[u32]) -> Span
     }
 }
 
-// Whether the picks a, whose box is s, and the picks b touch.
-fn spans_touch(cell: Cell, g: Gates, xs: &[f32], a: &[u32], b: &[u32], s: Span) -> bool
-    requires { ⌜ (g ≡ gatesOf (extentOf cell)) × (tested cell (now xs) ≡ true) × (s ≡ spanOf (now xs) (now a)) × (0 < length (now a)) × (0 < length (now b)) × (length (now b) ≤ 65536) ⌝ }
-    requires { ⌜ ((k : ℕ) → k < length (now a) → (getD (now a) k 0 * 3 + 2 < length (now xs)) × (finitePoint (pointAt (now xs) (getD (now a) k 0)) ≡ true)) ⌝ }
-    requires { ⌜ ((k : ℕ) → k < length (now b) → (getD (now b) k 0 * 3 + 2 < length (now xs)) × (finitePoint (pointAt (now xs) (getD (now b) k 0)) ≡ true)) ⌝ }
-    ensures { λ r. ⌜ r ≡ anyPair (nearOf (extentOf cell) (now (xs .entry))) (now (a .entry)) (now (b .entry)) ⌝ }
+// Whether a gate keeps the box s and the box of the picks b apart. An axis is worked out only where those before it do not decide.
+fn spans_apart(g: Gates, xs: &[f32], b: &[u32], s: Span) -> bool
+    requires { ⌜ 0 < length (now b) ⌝ }
+    requires { ⌜ ((k : ℕ) → k < length (now b) → getD (now b) k 0 * 3 + 2 < length (now xs)) ⌝ }
+    ensures { λ r. ⌜ r ≡ apartOf g s (spanOf (now (xs .entry)) (now (b .entry))) ⌝ }
 {
     let x = ends_of(xs, b, 0);
     if gates::far(g.x, x.lo - s.high.x, x.hi - s.low.x) {
-        return false;
+        return true;
     }
     let y = ends_of(xs, b, 1);
     if gates::far(g.y, y.lo - s.high.y, y.hi - s.low.y) {
-        return false;
+        return true;
     }
     let z = ends_of(xs, b, 2);
-    if gates::far(g.z, z.lo - s.high.z, z.hi - s.low.z) {
-        return false;
-    }
-    let c = Span {
-        low: Vec3 {
-            x: x.lo,
-            y: y.lo,
-            z: z.lo,
-        },
-        high: Vec3 {
-            x: x.hi,
-            y: y.hi,
-            z: z.hi,
-        },
-    };
-    lists_touch(cell, g, xs, a, b, c)
+    gates::far(g.z, z.lo - s.high.z, z.hi - s.low.z)
 }
 
-// Whether copies i and j of sound pick lists touch, given the cell's gates and the box of copy i.
+// Whether a gate keeps the box s and the box of copy j of sound pick lists apart.
+pub fn row_apart(g: Gates, xs: &[f32], starts: &[u32], picks: &[u32], s: Span, j: usize) -> bool
+    requires { ⌜ soundLists (now xs) (now starts) (now picks) ≡ true ⌝ }
+    requires { ⌜ j < copiesIn (now starts) ⌝ }
+    ensures { λ r. ⌜ r ≡ apartOf g s (spanOf (now (xs .entry)) (pickList (now (starts .entry)) (now (picks .entry)) j)) ⌝ }
+{
+    spans_apart(g, xs, selection::sound::copy_picks(starts, picks, j), s)
+}
+
+// Whether copies i and j of sound pick lists touch, given the cell's gates.
 pub fn row_touch(
     cell: Cell,
     g: Gates,
     xs: &[f32],
     starts: &[u32],
     picks: &[u32],
-    s: Span,
     i: usize,
     j: usize,
 ) -> bool
     requires { ⌜ soundLists (now xs) (now starts) (now picks) ≡ true ⌝ }
-    requires { ⌜ (g ≡ gatesOf (extentOf cell)) × (tested cell (now xs) ≡ true) × (s ≡ spanOf (now xs) (pickList (now starts) (now picks) i)) ⌝ }
+    requires { ⌜ (g ≡ gatesOf (extentOf cell)) × (tested cell (now xs) ≡ true) ⌝ }
     requires { ⌜ (i < copiesIn (now starts)) × (j < copiesIn (now starts)) ⌝ }
     ensures { λ r. ⌜ r ≡ copiesTouch cell (now (xs .entry)) (now (starts .entry)) (now (picks .entry)) i j ⌝ }
 {
     let a = selection::sound::copy_picks(starts, picks, i);
     let b = selection::sound::copy_picks(starts, picks, j);
-    spans_touch(cell, g, xs, a, b, s)
+    lists_touch(cell, g, xs, a, b, span_of(xs, b))
 }

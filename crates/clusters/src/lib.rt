@@ -172,8 +172,10 @@ pub fn scan_row(
     let s = boxes::span_of(solutes, selection::sound::copy_picks(starts, picks, i));
     let mut j = i + 1;
     while j < n {
-        if boxes::row_touch(cell, g, solutes, starts, picks, s, i, j) {
-            add_contact(table, n, i, j);
+        if !boxes::row_apart(g, solutes, starts, picks, s, j) {
+            if boxes::row_touch(cell, g, solutes, starts, picks, i, j) {
+                add_contact(table, n, i, j);
+            }
         }
         j += 1;
     }

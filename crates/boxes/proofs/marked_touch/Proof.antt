@@ -1,10 +1,6 @@
 -- `boxes::marked_touch` meets its contract: boxes that are apart decide, and otherwise the picks do. Assumes nothing.
 use mathlib.Core.Path.{sym}
-use Rattle.selection.specs.Selection.{finiteAtom}
-use Rattle.selection.proofs.SoundLists.{sound-lists}
-use Rattle.selection.proofs.CopyPicks.{copy-some, copy-finite}
-use Rattle.touch.specs.Touch.{copiesTouch}
-use Rattle.boxes.proofs.Between.{apart-spans, flagged}
+use Rattle.boxes.proofs.Between.{apart-copies, flagged}
 use borrow.Author.Needs.{needs}
 use Rattle.boxes.proofs.marked_touch.Statement.{statement}
 use Rattle.boxes.proofs.marked_touch.Tie as tie
@@ -16,13 +12,11 @@ shared-slice-read-if1 : tie.Need-shared-slice-read-if1
 shared-slice-read-if1 c = search needs
 
 returns : tie.Need-returns
-unfolding copiesTouch finiteAtom
 returns c =
     let st = c .before .before .before .before .before .before .before in
-    let l = sound-lists _ _ _ (st .pre .0) in
     let i = st .pre .1 .1 .1 .0 .0 in
     let j = st .pre .1 .1 .1 .0 .1 in
-    sym (apart-spans _ _ _ _ _ _ _ (st .pre .1 .0 .1) (copy-some _ _ _ l _ i) (copy-some _ _ _ l _ j) (copy-finite _ _ _ l _ i) (copy-finite _ _ _ l _ j) (st .pre .1 .0 .0) (st .pre .1 .1 .0 _ i) (st .pre .1 .1 .0 _ j) (flagged _ _ (st .pre .1 .1 .1 .1 .1) (c .if1 .taken)))
+    sym (apart-copies _ _ _ _ _ _ _ _ _ (st .pre .0) (st .pre .1 .0 .1) i j (st .pre .1 .0 .0) (st .pre .1 .1 .0 _ i) (st .pre .1 .1 .0 _ j) (flagged _ _ (st .pre .1 .1 .1 .1 .1) (c .if1 .taken)))
 
 copies-touch-requires : tie.Need-copies-touch-requires
 copies-touch-requires c κs = let st = c .before .before .before .before .before .before .before in (st .pre .0, (st .pre .1 .0, (st .pre .1 .1 .0, st .pre .1 .1 .1 .0)))

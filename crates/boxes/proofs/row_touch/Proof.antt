@@ -1,10 +1,8 @@
 -- `boxes::row_touch` meets its contract: the picks of both copies. Assumes nothing.
-use mathlib.Core.Path.{sym, ap, _∙_}
 use Rattle.selection.specs.Selection.{finiteAtom}
 use Rattle.selection.proofs.SoundLists.{sound-lists}
 use Rattle.selection.proofs.CopyPicks.{copy-part, copy-some, copy-few, copy-atoms, copy-finite}
 use Rattle.touch.specs.Touch.{copiesTouch}
-use Rattle.boxes.specs.Boxes.{spanOf}
 use Rattle.boxes.proofs.row_touch.Statement.{statement}
 use Rattle.boxes.proofs.row_touch.Tie as tie
 
@@ -14,23 +12,30 @@ copy-picks-requires c κs = let s = c .before .before .before in copy-part _ _ _
 copy-picks-requires-2 : tie.Need-copy-picks-requires-2
 copy-picks-requires-2 c κs = let s = c .before .before .before .before in copy-part _ _ _ (sound-lists _ _ _ (s .pre .0)) _ (s .pre .1 .1 .1)
 
-spans-touch-requires : tie.Need-spans-touch-requires
-unfolding finiteAtom
-spans-touch-requires c κs =
+span-of-requires : tie.Need-span-of-requires
+span-of-requires c κs =
     let s = c .before .before .before .before .before in
+    let j = s .pre .1 .1 .1 in
+    let l = sound-lists _ _ _ (s .pre .0) in
+    let b = c .copy-picks2 .ensures in
+    (rw b (copy-some _ _ _ l _ j), rw b (copy-atoms _ _ _ l _ j))
+
+lists-touch-requires : tie.Need-lists-touch-requires
+unfolding finiteAtom
+lists-touch-requires c κs =
+    let s = c .before .before .before .before .before .before in
     let i = s .pre .1 .1 .0 in
     let j = s .pre .1 .1 .1 in
     let l = sound-lists _ _ _ (s .pre .0) in
-    let a = c .before .copy-picks .ensures in
-    let b = c .copy-picks2 .ensures in (
-      (s .pre .1 .0 .0, s .pre .1 .0 .1, s .pre .1 .0 .2 ∙ ap (spanOf _) (sym a), rw a (copy-some _ _ _ l _ i), rw b (copy-some _ _ _ l _ j), rw b (copy-few _ _ _ l _ j)),
+    let a = c .before .before .copy-picks .ensures in
+    let b = c .before .copy-picks2 .ensures in (
+      (s .pre .1 .0 .0, s .pre .1 .0 .1, c .span-of .ensures, rw b (copy-some _ _ _ l _ j), rw b (copy-few _ _ _ l _ j)),
       (rw a (λ k h. (copy-atoms _ _ _ l _ i k h, copy-finite _ _ _ l _ i k h)), rw b (λ k h. (copy-atoms _ _ _ l _ j k h, copy-finite _ _ _ l _ j k h))),
     )
 
 returns : tie.Need-returns
 unfolding copiesTouch
-returns c = rw (c .spans-touch .ensures, c .before .copy-picks2 .ensures, c .before .before .copy-picks .ensures)
+returns c = rw (c .lists-touch .ensures, c .before .before .copy-picks2 .ensures, c .before .before .before .copy-picks .ensures)
 
 pub row-touch-spec : {M : Type 1} → statement M
-row-touch-spec =
-    tie.close (tie.spec copy-picks-requires copy-picks-requires-2 spans-touch-requires returns)
+row-touch-spec = tie.close (tie.spec copy-picks-requires copy-picks-requires-2 span-of-requires lists-touch-requires returns)

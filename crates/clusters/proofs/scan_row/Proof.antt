@@ -1,16 +1,18 @@
 -- `clusters::scan_row` meets its contract. Invariant, before copy j is tested: what is left of the pass over the table gives what the
 -- whole pass gives over the table at entry, and the table is ready for one more contact (`Run`); measure n - j. Assumes nothing.
-use mathlib.Core.Path.{sym, ap, _∙_}
+use mathlib.Core.Path.{refl, sym, ap, _∙_}
 use mathlib.Core.Logic.{⊎-elim}
 use Prim.Native.Nat.{_-_}
 use native.Mathlib.Omega.{arith}
 use Rattle.selection.proofs.CopyPicks.{copy-part, copy-some, copy-atoms}
 use Rattle.touch.specs.Touch.{copiesTouch}
 use Rattle.boxes.specs.Boxes.{spanOf}
+use Rattle.boxes.proofs.Between.{apart-copies}
 use Rattle.clusters.proofs.Accepted.{accepted-sound, accepted-lists, accepted-tested}
 use Rattle.clusters.proofs.Checks.{ready-of}
 use Rattle.clusters.proofs.Passes.{Run, run-first, run-skip, run-touch, run-last, run-asks}
 use borrow.Author.Needs.{needs}
+use borrow.Author.Tests.{not-false}
 use Rattle.clusters.proofs.scan_row.Statement.{statement}
 use Rattle.clusters.proofs.scan_row.Tie as tie
 
@@ -44,15 +46,20 @@ loop-holds c =
     let ls = accepted-lists _ _ _ _ (st .pre .0) in
     run-first (ls .few) (st .pre .1 .0) (st .pre .1 .2) (ready-of _ _ (ls .few) (st .pre .1 .1))
 
+row-apart-requires : tie.Need-row-apart-requires Inv-loop μ-loop
+row-apart-requires c κs =
+    let st = c .before .before .before .before .before .before .before .before .before in
+    (accepted-sound _ _ _ _ (st .pre .0), c .loop-test .taken)
+
 row-touch-requires : tie.Need-row-touch-requires Inv-loop μ-loop
 row-touch-requires c κs =
-    let st = c .before .before .before .before .before .before .before .before .before in
-    (accepted-sound _ _ _ _ (st .pre .0), ((c .before .before .before .before .gates-of .ensures, accepted-tested _ _ _ _ (st .pre .0), c .before .before .span-of .ensures ∙ ap (spanOf _) (c .before .before .before .copy-picks .ensures)), (st .pre .1 .2, c .loop-test .taken)))
+    let st = c .before .before .before .before .before .before .before .before .before .before .before in
+    (accepted-sound _ _ _ _ (st .pre .0), ((c .before .before .before .before .before .before .gates-of .ensures, accepted-tested _ _ _ _ (st .pre .0)), (st .pre .1 .2, c .before .before .loop-test .taken)))
 
 add-contact-requires : tie.Need-add-contact-requires Inv-loop μ-loop
 add-contact-requires c κs =
-    let st = c .before .before .before .before .before .before .before .before .before .before .before .before in
-    run-asks (c .before .before .before .before .loop .inv) (accepted-lists _ _ _ _ (st .pre .0) .few) (c .before .before .before .loop-test .taken)
+    let st = c .before .before .before .before .before .before .before .before .before .before .before .before .before .before in
+    run-asks (c .before .before .before .before .before .before .loop .inv) (accepted-lists _ _ _ _ (st .pre .0) .few) (c .before .before .before .before .before .loop-test .taken)
 
 add-j-2 : tie.Need-add-j-2 Inv-loop μ-loop
 add-j-2 c = let st = c .before .before .before .before .before .before .before .before .before .before .before in omega (arith, accepted-lists _ _ _ _ (st .pre .0) .few)
@@ -63,9 +70,19 @@ loop-less c = search needs
 loop-again : tie.Need-loop-again Inv-loop μ-loop
 loop-again c =
     let b = c .before .before .before in
+    let st = b .before .before .before .before .before .before .before .before in
     ⊎-elim
-    (λ w. rw (w .5 ∙ w .2 .ensures) (run-touch (b .loop .inv) (c .before .before .loop-test .taken) (sym (c .before .row-touch .ensures) ∙ w .0 .taken)))
-    (λ w. rw (w .1) (run-skip (b .loop .inv) (c .before .before .loop-test .taken) (sym (c .before .row-touch .ensures) ∙ w .0 .left)))
+    (λ w. rw (w .7 ∙ w .4 .ensures) (run-touch (b .loop .inv) (c .before .before .loop-test .taken) (sym (w .1 .ensures) ∙ w .2 .taken)))
+    (λ w.
+    ⊎-elim
+    (λ v. rw (v .3) (run-skip (b .loop .inv) (c .before .before .loop-test .taken) (sym (v .1 .ensures) ∙ v .2 .left)))
+    (λ v.
+    rw (v .1)
+    (run-skip (b .loop .inv) (c .before .before .loop-test .taken)
+    (apart-copies _ _ _ _ _ _ _ _ _ (accepted-sound _ _ _ _ (st .pre .0)) (accepted-tested _ _ _ _ (st .pre .0)) (st .pre .1 .2) (c .before .before .loop-test .taken)
+    (b .before .before .before .gates-of .ensures) (b .before .span-of .ensures ∙ ap (spanOf _) (b .before .before .copy-picks .ensures)) refl
+    (sym (c .before .row-apart .ensures) ∙ not-false _ (v .0 .left)))))
+    w)
     (c .if1 .came)
 
 set-mark-requires : tie.Need-set-mark-requires Inv-loop μ-loop
@@ -89,6 +106,7 @@ scan-row-spec =
     span-of-requires
     add-j
     loop-holds
+    row-apart-requires
     row-touch-requires
     add-contact-requires
     add-j-2

@@ -1,0 +1,21 @@
+-- `boxes::row_apart` meets its contract: the picks of copy j. Assumes nothing.
+use Rattle.selection.proofs.SoundLists.{sound-lists}
+use Rattle.selection.proofs.CopyPicks.{copy-part, copy-some, copy-atoms}
+use Rattle.boxes.proofs.row_apart.Statement.{statement}
+use Rattle.boxes.proofs.row_apart.Tie as tie
+
+copy-picks-requires : tie.Need-copy-picks-requires
+copy-picks-requires c κs = let s = c .before .before .before in copy-part _ _ _ (sound-lists _ _ _ (s .pre .0)) _ (s .pre .1)
+
+spans-apart-requires : tie.Need-spans-apart-requires
+spans-apart-requires c κs =
+    let s = c .before .before .before .before in
+    let l = sound-lists _ _ _ (s .pre .0) in
+    let b = c .copy-picks .ensures in
+    (rw b (copy-some _ _ _ l _ (s .pre .1)), rw b (copy-atoms _ _ _ l _ (s .pre .1)))
+
+returns : tie.Need-returns
+returns c = rw (c .spans-apart .ensures, c .before .copy-picks .ensures)
+
+pub row-apart-spec : {M : Type 1} → statement M
+row-apart-spec = tie.close (tie.spec copy-picks-requires spans-apart-requires returns)
