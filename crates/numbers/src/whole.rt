@@ -1,6 +1,6 @@
 // Floor, and round with halves away from zero. A zero result takes the argument's sign; NaN and infinities stay.
-// From 2^23 on every f32 is whole. Below it the whole part comes by shifts and masks; where the result is a zero, the
-// short path is two comparisons and a product.
+// From 2^23 on every f32 is whole. Below it the whole part comes by shifts and masks; floor from 0 up to 1, and round near zero, have a short
+// path of comparisons.
 use crate::class::from_bits32;
 use crate::class::to_bits32;
 ghost use mathlib.Core.Path.{_≡_};
