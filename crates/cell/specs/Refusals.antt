@@ -5,6 +5,7 @@ use mathlib.Core.Bool.{Bool, cond}
 use mathlib.Core.List.{List, [], _∷_}
 use Rattle.cell.specs.declared.Answer.{Answer}
 use Rattle.cell.specs.declared.Answer.the-variants.{Accepted, Refused}
+use Rattle.cell.specs.Tables.{unlessRefused}
 
 -- a refusal's number, and whether its condition holds
 pub record Refusal : Type 0 where
@@ -18,6 +19,10 @@ refuse n b = record { number = n; holds = b }
 unfoldable pub firstRefusal : List Refusal → ℕ
 firstRefusal [] = 0
 firstRefusal (r ∷ rs) = cond (r .holds) (r .number) (firstRefusal rs)
+
+-- what a call that answers acceptance alone answers, by the first number that holds
+abbrev pub answerOf : ℕ → Answer
+answerOf r = unlessRefused r Accepted (Refused r)
 
 -- the number of each case of an answer: 0 for acceptance, a refusal's own
 abbrev pub numberOf : Answer → ℕ
