@@ -8,7 +8,8 @@
  * picked atom of one and a picked atom of the other are at most 4.2 apart (at 4.2 they touch), by the nearest image.
  *
  * Tables. A table is a pointer and its number of entries (not bytes). Entries past what an answer needs keep their values. A refusal
- * changes no table; the one exception is 13.
+ * changes no table; the one exception is 13. Of a float table (centers, boxes) the promise is up to a NaN's payload: an entry that held a
+ * NaN holds a NaN. The code neither reads nor stores an entry that keeps its value, so the payload stays too; that is not proved.
  *
  * Answers. The result is 0, or the number of the first refusal in the order that the comment gives. What a call answers beyond that goes to
  * `answers`, a word for each value, floats as the bits of an f32: as many of the values as the table holds, from its start. The rest
