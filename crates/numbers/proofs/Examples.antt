@@ -1,11 +1,18 @@
--- Worked cases, which the definitions compute: patterns in, patterns out. Assumes nothing.
+-- Worked cases, which the definitions compute: patterns in, patterns out. Then values that the relations of specs/Standard.antt rule out.
+-- Assumes nothing.
 use mathlib.Core.Path.{_≡_, refl}
+use mathlib.Core.Bool.{true, false}
+use mathlib.Core.Logic.{inr}
 use mathlib.Core.List.{[], _∷_, map}
 use Prim.Native.Nat.{ℕ}
-use lib.Ieee.{Float, Format, binary32, binary64, ofBits, toBits}
+use native.Mathlib.Omega.{arith}
+use lib.IntN.{pos}
+use lib.Ieee.{Float, nan, fin, Format, binary32, binary64, ofBits, toBits, fits}
 use Rattle.numbers.specs.Whole.{floorOf, roundOf}
 use Rattle.numbers.specs.Convert.{narrowOf}
 use Rattle.numbers.specs.Root.{sqrtOf}
+use Rattle.numbers.specs.Standard.{ConvertsTo, HasRoot}
+use Rattle.numbers.proofs.Standard.{standard}
 
 -- g from the format f to the format h, on patterns
 on : Format → Format → (Float → Float) → ℕ → ℕ
@@ -42,3 +49,22 @@ narrows : map (on binary64 binary32 (narrowOf binary32))
     ≡ 0x3dcccccd ∷ 0x3f800000 ∷ 0x3f800002 ∷ 0x7f7fffff ∷ 0x7f800000 ∷ 0x00000001 ∷ 0x00000000 ∷ []
 unfolding on narrowOf ofBits toBits
 narrows = refl
+
+-- ---- outside the numbers of their domain the standard's relations hold of no wrong value: not of +0 for a NaN, nor of 1 for the root of -1; and -0
+-- is the root of -0
+nan-to-zero : ConvertsTo binary32 nan (fin false 0 (pos 0)) → ⊥
+unfolding narrowOf
+nan-to-zero h =
+    let e : fin false 0 (pos 0) ≡ nan = standard .converts binary32 nan (fin false 0 (pos 0)) .0 h in
+    let z : _≡_ {A = ℕ} 0 1 = cc in
+    omega arith
+
+root-of-minus-one : HasRoot binary32 (fin true 1 (pos 0)) (fin false 1 (pos 0)) → ⊥
+unfolding sqrtOf fits
+root-of-minus-one h =
+    let e : fin false 1 (pos 0) ≡ nan = standard .roots binary32 (fin true 1 (pos 0)) tt (fin false 1 (pos 0)) .0 h in
+    let z : _≡_ {A = ℕ} 0 1 = cc in
+    omega arith
+
+root-of-minus-zero : HasRoot binary32 (fin true 0 (pos 0)) (fin true 0 (pos 0))
+root-of-minus-zero = inr refl

@@ -90,5 +90,7 @@ pub mod RoundNearest
 pub mod NearestStandard
 -- the square root
 pub mod RootStandard
+-- every float: numbers and special values together
+pub mod Standard
 -- ---- worked cases
 pub mod Examples

@@ -13,8 +13,9 @@ use Rattle.numbers.specs.Standard.{sign, IsNearest}
 use Rattle.numbers.proofs.RoundNearest.{limit, Nearest, round-nearest, nearest-round}
 
 -- ---- a finite x narrowed
-of-nearest : (f : Format) (x y : Float) → Nearest f (sign x) (num x) (den x) y → IsNearest f x y
-of-nearest f x y h = record {
+of-nearest : (f : Format) (x y : Float) → T (finite x) → Nearest f (sign x) (num x) (den x) y → IsNearest f x y
+of-nearest f x y d h = record {
+  domain = d;
   held = h .held;
   signed = h .signed;
   large = λ o. h .large (leb→le (limit f * den x) (num x) o);
@@ -28,7 +29,7 @@ pub narrow-is-nearest : (f : Format) (x : Float) → T (finite x) → IsNearest 
 unfolding narrowOf
 narrow-is-nearest f nan h = absurd h
 narrow-is-nearest f (inf s) h = absurd h
-narrow-is-nearest f (fin s m e) h = of-nearest f (fin s m e) (round f s (m * up e) (down e)) (round-nearest f s (m * up e) (down e) (down-pos e))
+narrow-is-nearest f (fin s m e) h = of-nearest f (fin s m e) (round f s (m * up e) (down e)) h (round-nearest f s (m * up e) (down e) (down-pos e))
 
 to-nearest : (f : Format) (x y : Float) → IsNearest f x y → Nearest f (sign x) (num x) (den x) y
 to-nearest f x y h = record {

@@ -58,8 +58,9 @@ module _ (X E A U S D W : ℕ) (a : X * (U * U) ≡ A * E) (b : S * U ≡ W * D)
   to-below h = lt-of-mul-lt-mul-right (U * U) (lt-of-le-of-lt (le-of-eq right) (lt-of-lt-of-le (mul-lt-mul-of-pos-right h F) (le-of-eq (sym left))))
 
 -- ---- the theorem
-is-root : (f : Format) (m : ℕ) (e : ℤ) → T (fits f (fin false (suc m) e)) → IsRoot f (fin false (suc m) e) (sqrtOf f (fin false (suc m) e))
-is-root f m e h =
+is-root : (f : Format) (m : ℕ) (e : ℤ) → T (fits f (fin false (suc m) e)) → T (positive (fin false (suc m) e))
+    → IsRoot f (fin false (suc m) e) (sqrtOf f (fin false (suc m) e))
+is-root f m e h p =
     let A = Squared f (suc m) e in
     let U = 2 ^ low f in
     let r = sqrtOf f (fin false (suc m) e) in
@@ -67,6 +68,7 @@ is-root f m e h =
     let Y = R .Y in
     let P = positive-unsigned r (R .above-zero) in
     record {
+      domain = p;
       held = R .held;
       above-zero = R .above-zero;
       above = λ z k u l.
@@ -91,7 +93,7 @@ root-is-nearest f nan h p = absurd p
 root-is-nearest f (inf s) h p = absurd p
 root-is-nearest f (fin true m e) h p = absurd p
 root-is-nearest f (fin false zero e) h p = absurd p
-root-is-nearest f (fin false (suc m) e) h p = is-root f m e h
+root-is-nearest f (fin false (suc m) e) h p = is-root f m e h p
 
 -- ---- no other value is the root
 -- `IsRoot f x` holds of no two values one of which is above the other.

@@ -1,4 +1,4 @@
--- `floorOf` and `roundOf` are IEEE 754's floor and round of specs/Standard.antt on every finite value that a format holds, and nothing else is.
+-- `floorOf` and `roundOf` are IEEE 754's floor and round of specs/Standard.antt on every finite value that a format holds, and no other value is.
 -- Assumes nothing.
 use mathlib.Core.Path.{_≡_, refl, sym, ap, ap₂, _∙_, subst}
 use Prim.Native.Nat.{ℕ, _*_, _≤_}
@@ -76,6 +76,7 @@ floor-is f (fin s m e) F p =
     let r = floor-rounds f in
     let v : HasValue y s n 1 = rounds-value f floorSize (floorOf f) r s m e F in
     record {
+      domain = tt;
       held = subst (λ (z : Float). T (fits f z)) (sym (r .at-fin s m e)) (round-fits f s n 1);
       signed = value-parts y s n 1 v .0;
       is-whole = value-whole y s n v;
@@ -164,6 +165,7 @@ round-is-nearest f (fin s m e) F p =
     let v : HasValue y s n 1 = rounds-value f roundSize (roundOf f) r s m e F in
     let h : Near (m * up e) (down e) n = half-near (m * up e) (down e) (down-pos e) in
     record {
+      domain = tt;
       held = subst (λ (z : Float). T (fits f z)) (sym (r .at-fin s m e)) (round-fits f s n 1);
       signed = value-parts y s n 1 v .0;
       is-whole = value-whole y s n v;
