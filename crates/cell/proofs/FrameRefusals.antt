@@ -1,18 +1,19 @@
 -- The frame's refusals: one chain of tests, and what a frame with none of them has. Layers above join their own refusals to these
 -- (`first-append`, with `frame-numbered`). Assumes nothing.
 use mathlib.Core.Path.{_≡_, refl, sym, _∙_}
-use mathlib.Core.Bool.{Bool, true, false, cond, not, _||_}
+use mathlib.Core.Bool.{Bool, true, false, cond, not, _&&_, _||_}
 use mathlib.Core.List.{List, [], _∷_}
 use Prim.Native.Nat.{ℕ, zero, suc}
-use lib.Dec.{ltb}
+use lib.Dec.{ltb, eqb}
 use lib.ListN.{length}
 use lib.Ieee.{Float}
 use native.Mathlib.Omega.{arith}
+use borrow.Author.Tests.{ne-eqb}
 use Rattle.cell.specs.declared.Cell.{Cell}
 use Rattle.cell.specs.Cell.{valid}
 use Rattle.cell.specs.Refusals.{firstRefusal}
 use Rattle.cell.specs.Limits.{lengths, counts, bounds, coordinates, validity, limitRefusals, frameRefusals, ragged, long, longIndices, boundOver, anyOver, maxCoordinate}
-use Rattle.cell.proofs.FirstRefusal.{numbered, first-none, append-hit, append-skip, neither}
+use Rattle.cell.proofs.FirstRefusal.{numbered, first-none, first-append, neither}
 
 pub limit-numbered : (c : Cell) (solutes waters : List Float) (indices : List ℕ) → numbered (limitRefusals c solutes waters indices) ≡ true
 unfolding numbered limitRefusals lengths counts bounds coordinates
@@ -27,19 +28,18 @@ pub limit-chain : (c : Cell) (solutes waters : List Float) (indices : List ℕ) 
 unfolding firstRefusal limitRefusals lengths counts bounds coordinates longIndices
 limit-chain c solutes waters indices = refl
 
--- ---- `frame_refusal`: r is what the limits give
-module _ (c : Cell) (solutes waters : List Float) (r : ℕ) (found : r ≡ firstRefusal (limitRefusals c solutes waters [])) where
-  pub frame-limit : (r ≡ 0 → ⊥) → r ≡ firstRefusal (frameRefusals c solutes waters)
-  unfolding frameRefusals
-  frame-limit n = found ∙ sym (append-hit (limitRefusals c solutes waters []) (validity c ∷ []) (limit-numbered c solutes waters []) (λ z. n (found ∙ z)))
-
-  module _ (none : r ≡ 0) where
-    last : firstRefusal (frameRefusals c solutes waters) ≡ cond (not (valid c)) 15 0
-    unfolding frameRefusals validity firstRefusal
-    last = append-skip (limitRefusals c solutes waters []) (validity c ∷ []) (limit-numbered c solutes waters []) (sym found ∙ none)
-
-    pub frame-valid : (b : Bool) → b ≡ valid c → cond (not b) 15 0 ≡ firstRefusal (frameRefusals c solutes waters)
-    frame-valid b e = rw e (sym last)
+-- the limits, and where none of them refuses whether the cell is valid
+pub frame-chain : (c : Cell) (solutes waters : List Float)
+    → firstRefusal (frameRefusals c solutes waters)
+    ≡ cond (eqb (firstRefusal (limitRefusals c solutes waters [])) 0 && not (valid c)) 15 (firstRefusal (limitRefusals c solutes waters []))
+unfolding frameRefusals validity firstRefusal
+frame-chain c solutes waters =
+    first-append (limitRefusals c solutes waters []) (validity c ∷ []) (limit-numbered c solutes waters [])
+    ∙ as-one (firstRefusal (limitRefusals c solutes waters [])) (not (valid c))
+  where
+    as-one : (r : ℕ) (b : Bool) → cond (eqb r 0) (cond b 15 0) r ≡ cond (eqb r 0 && b) 15 r
+    as-one zero b = refl
+    as-one (suc r) b = rw (ne-eqb (suc r) 0 (λ z. omega arith))
 
 -- what a frame has that none of 1, 2, 3 and 4 refuses
 pub record Within (c : Cell) (solutes waters : List Float) (indices : List ℕ) : Type 0 where
@@ -51,10 +51,6 @@ pub record Within (c : Cell) (solutes waters : List Float) (indices : List ℕ) 
   pub solutes-within : anyOver maxCoordinate solutes ≡ false
   pub waters-within : anyOver maxCoordinate waters ≡ false
   pub indices-few : longIndices indices ≡ false
-
-by-valid : (b : Bool) → _≡_ {A = ℕ} (cond (not b) 15 0) 0 → b ≡ true
-by-valid true e = refl
-by-valid false e = absurd (omega arith)
 
 pub limit-none : (c : Cell) (solutes waters : List Float) (indices : List ℕ) → firstRefusal (limitRefusals c solutes waters indices) ≡ 0 → Within c solutes waters indices
 unfolding limitRefusals lengths counts bounds coordinates
@@ -89,28 +85,31 @@ pub record Accepted (c : Cell) (solutes waters : List Float) : Type 0 where
   pub waters-within : anyOver maxCoordinate waters ≡ false
   pub cell-valid : valid c ≡ true
 
+-- neither a limit nor an invalid cell
+none-of : (r : ℕ) (b : Bool) → cond (eqb r 0 && not b) 15 r ≡ 0 → (r ≡ 0) × (b ≡ true)
+none-of zero true e = (refl, refl)
+none-of zero false e = absurd (omega arith)
+none-of (suc r) b e = absurd (omega (arith, rw (ne-eqb (suc r) 0 (λ z. omega arith)) at e))
+
 pub frame-none : (c : Cell) (solutes waters : List Float) → firstRefusal (frameRefusals c solutes waters) ≡ 0 → Accepted c solutes waters
-frame-none c solutes waters e = by-limits (firstRefusal (limitRefusals c solutes waters [])) refl
-  where
-    by-limits : (r : ℕ) → r ≡ firstRefusal (limitRefusals c solutes waters []) → Accepted c solutes waters
-    by-limits zero found =
-        let w = limit-none c solutes waters [] (sym found) in
-        record {
-          solutes-whole = w .solutes-whole;
-          waters-whole = w .waters-whole;
-          solutes-few = w .solutes-few;
-          waters-few = w .waters-few;
-          bounds-within = w .bounds-within;
-          solutes-within = w .solutes-within;
-          waters-within = w .waters-within;
-          cell-valid = by-valid (valid c) (sym (last c solutes waters 0 found refl) ∙ e);
-        }
-    by-limits (suc r) found = absurd (omega (arith, frame-limit c solutes waters (suc r) found (λ z. omega arith) ∙ e))
+frame-none c solutes waters e =
+    let n = none-of (firstRefusal (limitRefusals c solutes waters [])) (valid c) (sym (frame-chain c solutes waters) ∙ e) in
+    let w = limit-none c solutes waters [] (n .0) in
+    record {
+      solutes-whole = w .solutes-whole;
+      waters-whole = w .waters-whole;
+      solutes-few = w .solutes-few;
+      waters-few = w .waters-few;
+      bounds-within = w .bounds-within;
+      solutes-within = w .solutes-within;
+      waters-within = w .waters-within;
+      cell-valid = n .1;
+    }
 
 -- a valid cell within the limits, with its solutes alone
 pub within-solutes : (c : Cell) (solutes waters : List Float) (indices : List ℕ) → Within c solutes waters indices → valid c ≡ true → firstRefusal (frameRefusals c solutes []) ≡ 0
 unfolding ragged long anyOver
-within-solutes c solutes waters indices w v = last c solutes [] 0 (sym none) refl ∙ rw v
+within-solutes c solutes waters indices w v = frame-chain c solutes [] ∙ rw (none, v)
   where
     none : firstRefusal (limitRefusals c solutes [] []) ≡ 0
     none = limit-chain c solutes [] [] ∙ rw (w .solutes-whole, w .solutes-few, w .bounds-within, w .solutes-within)

@@ -32,14 +32,23 @@ maxBound = ofBits binary32 0x4780_0000
 abbrev pub maxCoordinate : Float
 maxCoordinate = ofBits binary32 0x4980_0000
 
+-- x is beyond a limit in magnitude, an infinity too
+abbrev pub beyond : Float → Float → Bool
+beyond limit x = lt limit x || lt x (neg limit)
+
 -- x is finite and over a limit in magnitude
 unfoldable pub over : Float → Float → Bool
-over limit x = finite x && (lt limit x || lt x (neg limit))
+over limit x = finite x && beyond limit x
 
+-- one of the numbers passes the test
+abbrev pub any : (Float → Bool) → List Float → Bool
+any test [] = false
+any test (x ∷ xs) = test x || any test xs
+
+-- one of the numbers is over the limit
 unfoldable pub anyOver : Float → List Float → Bool
 unfolding over
-anyOver limit [] = false
-anyOver limit (x ∷ xs) = over limit x || anyOver limit xs
+anyOver limit = any (over limit)
 
 -- a length that is no multiple of three
 unfoldable pub ragged : List Float → Bool

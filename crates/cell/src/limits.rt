@@ -2,9 +2,8 @@
 // waters or no indices hands over an empty list in their place.
 use crate::Cell;
 ghost use mathlib.Core.Path.{_≡_};
-ghost use mathlib.Core.Bool.{false};
 ghost use lib.ListN.{length};
-ghost use Rattle.cell.specs.Limits.{over as overOf, anyOver, ragged as raggedOf, long as longOf, boundOver, limitRefusals, frameRefusals, maxCoordinate};
+ghost use Rattle.cell.specs.Limits.{over as overOf, beyond as beyondOf, any, anyOver, ragged as raggedOf, long as longOf, boundOver, limitRefusals, frameRefusals, maxCoordinate};
 ghost use Rattle.cell.specs.Refusals.{firstRefusal};
 
 pub const MAX_ATOMS: usize = 65536;
@@ -29,7 +28,7 @@ fn over(limit: f32, x: f32) -> bool
 // Whether a coordinate is beyond its limit, an infinite one too. Here and below the loop has no branch on a coordinate, so that a processor tests
 // several at once.
 fn beyond(xs: &[f32]) -> bool
-    ensures { λ r. ⌜ (r ≡ false → anyOver maxCoordinate (now (xs .entry)) ≡ false) ⌝ }
+    ensures { λ r. ⌜ r ≡ any (beyondOf maxCoordinate) (now (xs .entry)) ⌝ }
 {
     let mut any = false;
     let mut i = 0;
@@ -103,10 +102,7 @@ pub fn limit_refusal(cell: Cell, solutes: &[f32], waters: &[f32], indices: &[u32
     if bound_over(cell) {
         return 3;
     }
-    if coordinate_over(solutes) {
-        return 4;
-    }
-    if coordinate_over(waters) {
+    if coordinate_over(solutes) | coordinate_over(waters) {
         return 4;
     }
     0
@@ -118,11 +114,8 @@ pub fn frame_refusal(cell: Cell, solutes: &[f32], waters: &[f32]) -> u32
 {
     let none = [0u32; 0];
     let refusal = limit_refusal(cell, solutes, waters, &none);
-    if refusal != 0 {
-        return refusal;
-    }
-    if !crate::is_valid(cell) {
+    if (refusal == 0) & !crate::is_valid(cell) {
         return 15;
     }
-    0
+    refusal
 }

@@ -1,24 +1,23 @@
--- `cell::limits::beyond` meets its contract. The loop's invariant: if nothing was found before `i`, what is left of the list from there on decides.
--- The measure is what is left of the length. Assumes nothing.
+-- `cell::limits::beyond` meets its contract. The loop's invariant: what was found before `i`, or what is left of the list from there
+-- on, decides. The measure is what is left of the length. Assumes nothing.
 use Prim.Native.Nat.{_≤_, _-_}
-use mathlib.Core.Path.{_≡_, refl, sym, _∙_}
-use mathlib.Core.Bool.{false}
+use mathlib.Core.Path.{_≡_, refl, sym, ap, _∙_}
+use mathlib.Core.Bool.{Bool, _||_, or-false}
 use borrow.Author.Needs.{needs}
 use lib.ListN.{length, drop}
-use Rattle.cell.specs.Limits.{anyOver, maxCoordinate}
-use Rattle.cell.proofs.FirstRefusal.{neither}
-use Rattle.cell.proofs.Search.{over-skip, over-none}
+use Rattle.cell.specs.Limits.{beyond, any, maxCoordinate}
+use Rattle.cell.proofs.Search.{any-step, any-end}
 use Rattle.cell.proofs.limits.beyond.Statement.{statement}
 use Rattle.cell.proofs.limits.beyond.Tie as tie
 
 abbrev Inv-loop : tie.InvT-loop
-Inv-loop xs any₀ i₀ any i = (i ≤ length xs) × (any ≡ false → anyOver maxCoordinate (drop i xs) ≡ anyOver maxCoordinate xs)
+Inv-loop xs found₀ i₀ found i = (i ≤ length xs) × ((found || any (beyond maxCoordinate) (drop i xs)) ≡ any (beyond maxCoordinate) xs)
 
 abbrev μ-loop : tie.MeasureT-loop
-μ-loop xs any₀ i₀ any i = length xs - i
+μ-loop xs found₀ i₀ found i = length xs - i
 
 loop-holds : tie.Need-loop-holds Inv-loop μ-loop
-loop-holds c = (search needs, λ e. refl)
+loop-holds c = (search needs, refl)
 
 mul-x : tie.Need-mul-x Inv-loop μ-loop
 mul-x c = search needs
@@ -35,16 +34,14 @@ loop-less c = search needs
 loop-again : tie.Need-loop-again Inv-loop μ-loop
 loop-again c =
     let inside = c .before in
-    let at = inside .before in (
-      search needs,
-      λ e. let none = neither (at .loop .any) _ e in
-          over-skip maxCoordinate (at .before .args .xs .now) (at .loop .i) (inside .loop-test .taken) (none .1) ∙ at .loop .inv .1 (none .0),
-    )
+    let at = inside .before in
+    (search needs, any-step (beyond maxCoordinate) (at .before .args .xs .now) (at .loop .i) (at .loop .any) (inside .loop-test .taken) ∙ at .loop .inv .1)
 
 returns : tie.Need-returns Inv-loop μ-loop
 returns c =
     let at = c .before in
-    λ e. sym (at .loop .inv .1 e) ∙ over-none maxCoordinate (at .before .args .xs .now) (at .loop .i) (c .loop-test .left)
+    let none = any-end (beyond maxCoordinate) (at .before .args .xs .now) (at .loop .i) (c .loop-test .left) in
+    sym (or-false (at .loop .any)) ∙ ap (λ (b : Bool). at .loop .any || b) (sym none) ∙ at .loop .inv .1
 
 pub beyond-spec : {M : Type 1} → statement M
 beyond-spec =

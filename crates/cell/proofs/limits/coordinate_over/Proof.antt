@@ -1,8 +1,9 @@
 -- `cell::limits::coordinate_over` meets its contract: where no coordinate is beyond the limit none is over it, and else the second test decides.
 -- Assumes nothing.
-use mathlib.Core.Path.{sym}
+use mathlib.Core.Path.{sym, _∙_}
 use borrow.Author.Needs.{needs}
 use borrow.Author.Tests.{not-true}
+use Rattle.cell.proofs.Search.{within-limit}
 use Rattle.cell.proofs.limits.coordinate_over.Statement.{statement}
 use Rattle.cell.proofs.limits.coordinate_over.Tie as tie
 
@@ -10,7 +11,7 @@ beyond-requires : tie.Need-beyond-requires
 beyond-requires c κs = search needs
 
 returns : tie.Need-returns
-returns c = sym (c .before .beyond .ensures (not-true _ (c .if1 .taken)))
+returns c = sym (within-limit _ _ (sym (c .before .beyond .ensures) ∙ not-true _ (c .if1 .taken)))
 
 finite-over-requires : tie.Need-finite-over-requires
 finite-over-requires c κs = search needs

@@ -5,16 +5,16 @@ use mathlib.Core.Path.{_≡_, refl, sym, ap, _∙_}
 use mathlib.Core.Bool.{Bool, _||_, or-false}
 use borrow.Author.Needs.{needs}
 use lib.ListN.{length, drop}
-use Rattle.cell.specs.Limits.{anyOver, maxCoordinate}
-use Rattle.cell.proofs.Search.{over-step, over-none}
+use Rattle.cell.specs.Limits.{over, any, anyOver, maxCoordinate}
+use Rattle.cell.proofs.Search.{any-step, any-end}
 use Rattle.cell.proofs.limits.finite_over.Statement.{statement}
 use Rattle.cell.proofs.limits.finite_over.Tie as tie
 
 abbrev Inv-loop : tie.InvT-loop
-Inv-loop xs any₀ i₀ any i = (i ≤ length xs) × ((any || anyOver maxCoordinate (drop i xs)) ≡ anyOver maxCoordinate xs)
+Inv-loop xs found₀ i₀ found i = (i ≤ length xs) × ((found || any (over maxCoordinate) (drop i xs)) ≡ any (over maxCoordinate) xs)
 
 abbrev μ-loop : tie.MeasureT-loop
-μ-loop xs any₀ i₀ any i = length xs - i
+μ-loop xs found₀ i₀ found i = length xs - i
 
 loop-holds : tie.Need-loop-holds Inv-loop μ-loop
 loop-holds c = (search needs, refl)
@@ -38,12 +38,13 @@ loop-again : tie.Need-loop-again Inv-loop μ-loop
 loop-again c =
     let inside = c .before .before in
     let at = inside .before in
-    (search needs, rw (c .over .ensures) (over-step maxCoordinate (at .before .before .args .xs .now) (at .loop .i) (at .loop .any) (inside .loop-test .taken) ∙ at .loop .inv .1))
+    (search needs, rw (c .over .ensures) (any-step (over maxCoordinate) (at .before .before .args .xs .now) (at .loop .i) (at .loop .any) (inside .loop-test .taken) ∙ at .loop .inv .1))
 
 returns : tie.Need-returns Inv-loop μ-loop
+unfolding anyOver
 returns c =
     let at = c .before in
-    let none = over-none maxCoordinate (at .before .before .args .xs .now) (at .loop .i) (c .loop-test .left) in
+    let none = any-end (over maxCoordinate) (at .before .before .args .xs .now) (at .loop .i) (c .loop-test .left) in
     sym (or-false (at .loop .any)) ∙ ap (λ (b : Bool). at .loop .any || b) (sym none) ∙ at .loop .inv .1
 
 pub finite-over-spec : {M : Type 1} → statement M

@@ -37,31 +37,22 @@ returns-3 c =
 coordinate-over-requires : tie.Need-coordinate-over-requires
 coordinate-over-requires c κs = search needs
 
-returns-4 : tie.Need-returns-4
-returns-4 c =
-    let e3 = c .before .before in
-    let e2 = e3 .before .before in
-    let e1 = e2 .before .before .before in
-    rw (limit-chain, ← e1 .before .before .ragged .ensures, ← e1 .before .ragged2 .ensures, e1 .if1 .left, ← e2 .before .before .long .ensures, ← e2 .before .long2 .ensures, e2 .if2 .left, ← e3 .before .bound-over .ensures, e3 .if3 .left, ← c .before .coordinate-over .ensures, c .if4 .taken)
-
 coordinate-over-requires-2 : tie.Need-coordinate-over-requires-2
 coordinate-over-requires-2 c κs = search needs
 
+returns-4 : tie.Need-returns-4
+returns-4 c =
+    let e3 = c .before .before .before in
+    let e2 = e3 .before .before in
+    let e1 = e2 .before .before .before in
+    rw (limit-chain, ← e1 .before .before .ragged .ensures, ← e1 .before .ragged2 .ensures, e1 .if1 .left, ← e2 .before .before .long .ensures, ← e2 .before .long2 .ensures, e2 .if2 .left, ← e3 .before .bound-over .ensures, e3 .if3 .left, ← c .before .before .coordinate-over .ensures, ← c .before .coordinate-over2 .ensures, c .if4 .taken)
+
 returns-5 : tie.Need-returns-5
 returns-5 c =
-    let e4 = c .before .before in
-    let e3 = e4 .before .before in
+    let e3 = c .before .before .before in
     let e2 = e3 .before .before in
     let e1 = e2 .before .before .before in
-    rw (limit-chain, ← e1 .before .before .ragged .ensures, ← e1 .before .ragged2 .ensures, e1 .if1 .left, ← e2 .before .before .long .ensures, ← e2 .before .long2 .ensures, e2 .if2 .left, ← e3 .before .bound-over .ensures, e3 .if3 .left, ← e4 .before .coordinate-over .ensures, e4 .if4 .left, ← c .before .coordinate-over2 .ensures, c .if5 .taken)
-
-returns-6 : tie.Need-returns-6
-returns-6 c =
-    let e4 = c .before .before in
-    let e3 = e4 .before .before in
-    let e2 = e3 .before .before in
-    let e1 = e2 .before .before .before in
-    rw (limit-chain, ← e1 .before .before .ragged .ensures, ← e1 .before .ragged2 .ensures, e1 .if1 .left, ← e2 .before .before .long .ensures, ← e2 .before .long2 .ensures, e2 .if2 .left, ← e3 .before .bound-over .ensures, e3 .if3 .left, ← e4 .before .coordinate-over .ensures, e4 .if4 .left, ← c .before .coordinate-over2 .ensures, c .if5 .left)
+    rw (limit-chain, ← e1 .before .before .ragged .ensures, ← e1 .before .ragged2 .ensures, e1 .if1 .left, ← e2 .before .before .long .ensures, ← e2 .before .long2 .ensures, e2 .if2 .left, ← e3 .before .bound-over .ensures, e3 .if3 .left, ← c .before .before .coordinate-over .ensures, ← c .before .coordinate-over2 .ensures, c .if4 .left)
 
 pub limit-refusal-spec : {M : Type 1} → statement M
 limit-refusal-spec =
@@ -76,7 +67,6 @@ limit-refusal-spec =
     bound-over-requires
     returns-3
     coordinate-over-requires
-    returns-4
     coordinate-over-requires-2
-    returns-5
-    returns-6)
+    returns-4
+    returns-5)
