@@ -25,10 +25,11 @@ use Rattle.cell.proofs.FiniteFrame.{Limited, limited, solute-around}
 use Rattle.selection.specs.Selection.{finiteAtom}
 use Rattle.selection.specs.Sound.{copiesIn, pickList}
 use Rattle.selection.specs.Input.{inputRefusals}
+use Rattle.selection.proofs.SoundLists.{sound-lists}
+use Rattle.selection.proofs.CopyPicks.{copy-some, copy-few, copy-finite}
 use Rattle.selection.proofs.InputRefusals.{input-accepted}
 use Rattle.dispersion.specs.Centers.{plus, dividedBy, origin, unwrapped, sumFrom, anchorOf, centerOf, centersOf}
 use Rattle.dispersion.proofs.CenterList.{center-at}
-use Rattle.dispersion.proofs.Copies.{sound-copy}
 use Rattle.dispersion.proofs.PlainValues.{count-value}
 
 -- ---- a term of the sum
@@ -110,8 +111,8 @@ module _ (c : Cell) (xs ws : List Float) (starts picks : List ℕ) (h : firstRef
   unfolding finiteAtom
   center-around i g =
       let ok = input-accepted c xs ws starts picks h in
-      let copy = sound-copy xs starts picks (ok .1) i g in
-      copy-around c xs (pickList starts picks i) (limited c xs ws (ok .0)) (λ k b. solute-around c xs ws (ok .0) (getD (pickList starts picks i) k 0) (copy .finite k b)) (copy .some) (copy .few)
+      let l = sound-lists xs starts picks (ok .1) in
+      copy-around c xs (pickList starts picks i) (limited c xs ws (ok .0)) (λ k b. solute-around c xs ws (ok .0) (getD (pickList starts picks i) k 0) (copy-finite xs starts picks l i g k b)) (copy-some xs starts picks l i g) (copy-few xs starts picks l i g)
 
   pub center-finite : (i : ℕ) → i < copiesIn starts → finitePoint (centerOf c xs (pickList starts picks i)) ≡ true
   center-finite i g = around-finite 49 (centerOf c xs (pickList starts picks i)) (center-around i g)

@@ -3,8 +3,6 @@
 pub mod Sums
 -- a list written into a table, three entries at a time
 pub mod Placing
--- the picks of a copy of sound pick lists: one or more, each a finite atom
-pub mod Copies
 -- the list of centers: its length, each copy's center at its place, and how it is written
 pub mod CenterList
 -- the score reads no more than its centers; its cases by their tests

@@ -11,6 +11,7 @@ use Rattle.cell.specs.declared.Vec3.{Vec3}
 use Rattle.cell.specs.declared.Cell.{Cell}
 use Rattle.cell.specs.Cell.{epsilon, extentOf, squared, distance2, pointAt}
 use Rattle.cell.specs.Refusals.{firstRefusal}
+use Rattle.cell.specs.Tables.{unlessRefused}
 use Rattle.selection.specs.Sound.{copiesIn}
 use Rattle.selection.specs.Input.{inputRefusals}
 use Rattle.dispersion.specs.Centers.{centersOf}
@@ -56,6 +57,13 @@ dispersionOf c xs starts picks = scoreOf (extentOf c) (centersOf c xs starts pic
 unfoldable pub dispersionRefusal : Cell → List Float → List ℕ → List ℕ → ℕ
 unfolding inputRefusals firstRefusal
 dispersionRefusal c xs starts picks = firstRefusal (inputRefusals c xs [] starts picks)
+
+-- what Dispersion answers: the score, or the refusal's number
+unfoldable pub dispersionAnswer : Cell → List Float → List ℕ → List ℕ → Dispersed
+unfolding dispersionRefusal dispersionOf
+dispersionAnswer c xs starts picks =
+    let r = dispersionRefusal c xs starts picks in
+    unlessRefused r (Score (dispersionOf c xs starts picks)) (Refused r)
 
 -- the number of each case of an answer, and its values: the score, none with a refusal
 abbrev pub dispersedNumber : Dispersed → ℕ

@@ -2,16 +2,15 @@
 // `solute_center_dispersion_score`). f32 arithmetic, each operation rounded once; squared distances are summed in f64.
 ghost use mathlib.Core.Path.{_≡_};
 ghost use mathlib.Core.Bool.{true};
-ghost use mathlib.Core.List.{[], _∷_};
 ghost use Prim.Native.Nat.{ℕ, _+_, _-_, _*_, _<_, _≤_};
 ghost use lib.ListN.{length, getD};
 ghost use lib.Ieee.{binary64, ofBits};
 ghost use Rattle.cell.specs.Cell.{extentOf, minImage, minus};
-ghost use Rattle.cell.specs.Refusals.{numberOf};
-ghost use Rattle.cell.specs.Tables.{over, unlessRefused};
+ghost use Rattle.cell.specs.Refusals.{answerOf};
+ghost use Rattle.cell.specs.Tables.{over};
 ghost use Rattle.selection.specs.Sound.{soundLists, copiesIn, pickList};
 ghost use Rattle.dispersion.specs.Centers.{plus, dividedBy, centerOf, centersOf, centersRefusal, centersLeaves};
-ghost use Rattle.dispersion.specs.Dispersion.{clamped, expectedOf, rowSum, pairSum, observedOf, scoreOf, dispersionOf, dispersionRefusal, dispersedNumber, dispersedValues};
+ghost use Rattle.dispersion.specs.Dispersion.{clamped, expectedOf, rowSum, pairSum, observedOf, scoreOf, dispersionOf, dispersionAnswer};
 use cell::Answer;
 use cell::Cell;
 use cell::EPSILON;
@@ -86,9 +85,7 @@ fn copy_center(cell: Cell, xs: &[f32], starts: &[u32], picks: &[u32], i: usize) 
     requires { ⌜ i < copiesIn (now starts) ⌝ }
     ensures { λ r. ⌜ r ≡ centerOf cell (now (xs .entry)) (pickList (now (starts .entry)) (now (picks .entry)) i) ⌝ }
 {
-    let a = starts[i] as usize;
-    let b = starts[i + 1] as usize;
-    center(cell, xs, &picks[a..b])
+    center(cell, xs, selection::sound::copy_picks(starts, picks, i))
 }
 
 // Writes x y z of each copy's center, in order, for sound pick lists: the core of Centers, which tests nothing again.
@@ -117,7 +114,7 @@ pub fn centers(
     picks: &[u32],
     centers: &mut [f32],
 ) -> Answer
-    ensures answer { λ r. ⌜ numberOf r ≡ centersRefusal cell (now (solutes .entry)) (now (starts .entry)) (now (picks .entry)) (now (centers .entry)) ⌝ }
+    ensures answer { λ r. ⌜ r ≡ answerOf (centersRefusal cell (now (solutes .entry)) (now (starts .entry)) (now (picks .entry)) (now (centers .entry))) ⌝ }
     ensures after { λ r. ⌜ now (centers .exit) ≡ centersLeaves cell (now (solutes .entry)) (now (starts .entry)) (now (picks .entry)) (now (centers .entry)) ⌝ }
 {
     let refusal = selection::sound::input_refusal(cell, solutes, &solutes[..0], starts, picks);
@@ -218,8 +215,7 @@ pub fn dispersion_of(cell: Cell, xs: &[f32], starts: &[u32], picks: &[u32]) -> f
 
 // Dispersion: 1, 2, 3, 4, 15, 8 in this order, or the score.
 pub fn dispersion(cell: Cell, solutes: &[f32], starts: &[u32], picks: &[u32]) -> Dispersed
-    ensures answer { λ r. ⌜ dispersedNumber r ≡ dispersionRefusal cell (now (solutes .entry)) (now (starts .entry)) (now (picks .entry)) ⌝ }
-    ensures values { λ r. ⌜ dispersedValues r ≡ unlessRefused (dispersionRefusal cell (now (solutes .entry)) (now (starts .entry)) (now (picks .entry))) (dispersionOf cell (now (solutes .entry)) (now (starts .entry)) (now (picks .entry)) ∷ []) [] ⌝ }
+    ensures answer { λ r. ⌜ r ≡ dispersionAnswer cell (now (solutes .entry)) (now (starts .entry)) (now (picks .entry)) ⌝ }
 {
     let refusal = selection::sound::input_refusal(cell, solutes, &solutes[..0], starts, picks);
     if refusal != 0 {

@@ -1,15 +1,12 @@
 -- The kept copies, a chunk at a time: the copies from atom `base` on are that chunk's, if any of it was picked, and those from the next.
 -- Assumes nothing.
 use mathlib.Core.Path.{_≡_, refl, _∙_}
-use mathlib.Core.Bool.{Bool, true, false, true≢false, false≢true, _||_}
 use mathlib.Core.List.{List, [], _∷_, _++_}
 use Prim.Native.Nat.{ℕ, zero, suc, _+_, _-_, _/_, _≤_, _<_}
 use native.Mathlib.Nat.{div-eq-of-lt, div-eq-sub-div}
 use native.Mathlib.Numerals.{add-one}
 use native.Mathlib.Omega.{arith}
-use lib.Dec.{eqb, ltb}
 use lib.ListN.{length, length-append}
-use borrow.Author.Tests.{eqb-true, eqb-false, ltb-true, ltb-false}
 use lib.Ieee.{Float}
 use Rattle.selection.specs.Selection.{picked, keep, chunks, copiesFrom, keptCopies, joined}
 
@@ -53,12 +50,13 @@ module _ (xs : List Float) (per : ℕ) (is : List ℕ) where
   unfolding copiesFrom
   left-none base h = rw (chunks-none per (length xs / 3 - base) h)
 
-  module _ (base : ℕ) (some : 0 < per) (whole : base + per ≤ length xs / 3) where
+  -- a whole chunk is left
+  module _ (base : ℕ) (some : 0 < per) (whole : per ≤ length xs / 3 - base) where
     left-more : copiesLeft base ≡ keep (picked xs per is base) (copiesLeft (base + per))
     unfolding copiesFrom
     left-more =
         let n : length xs / 3 - base - per ≡ length xs / 3 - (base + per) = omega arith in
-        rw (chunks-more per (length xs / 3 - base) some (omega arith), n)
+        rw (chunks-more per (length xs / 3 - base) some whole, n)
 
     pub left-joined : length (joined (copiesLeft base)) ≡ length (picked xs per is base) + length (joined (copiesLeft (base + per)))
     left-joined = rw (left-more, joined-keep) (length-append (picked xs per is base) (joined (copiesLeft (base + per))))
@@ -69,28 +67,7 @@ module _ (xs : List Float) (per : ℕ) (is : List ℕ) where
     pub left-vanished : length (picked xs per is base) ≤ 0 → copiesLeft base ≡ copiesLeft (base + per)
     left-vanished h = left-more ∙ keep-none (picked xs per is base) (copiesLeft (base + per)) h
 
-  -- with no atoms per copy there is no copy, and none where a copy has more than the limit's
+  -- with no atoms per copy there is no copy
   pub kept-zero : per ≡ 0 → keptCopies xs per is ≡ []
   unfolding keptCopies copiesFrom chunks
   kept-zero e = rw e
-
-  pub kept-wide : length xs / 3 < per → keptCopies xs per is ≡ []
-  unfolding keptCopies copiesFrom
-  kept-wide h = rw (chunks-none per (length xs / 3) h)
-
--- ---- the code's test of the atoms per copy: there is no copy, or a chunk has one to 65,536 atoms
-pub kept-outside : (xs : List Float) (per : ℕ) (is : List ℕ) → length xs ≤ 196608 → (eqb per 0 || ltb 65536 per) ≡ true → keptCopies xs per is ≡ []
-kept-outside xs per is few e = by-test (eqb per 0) (ltb 65536 per) refl refl e
-  where
-    by-test : (a b : Bool) → eqb per 0 ≡ a → ltb 65536 per ≡ b → (a || b) ≡ true → keptCopies xs per is ≡ []
-    by-test true b h k t = kept-zero xs per is (eqb-true per 0 h)
-    by-test false true h k t = kept-wide xs per is (omega (arith, ltb-true 65536 per k))
-    by-test false false h k t = absurd (false≢true t)
-
-pub per-inside : (per : ℕ) → (eqb per 0 || ltb 65536 per) ≡ false → (0 < per) × (per ≤ 65536)
-per-inside per e = by-test (eqb per 0) (ltb 65536 per) refl refl e
-  where
-    by-test : (a b : Bool) → eqb per 0 ≡ a → ltb 65536 per ≡ b → (a || b) ≡ false → (0 < per) × (per ≤ 65536)
-    by-test true b h k t = absurd (true≢false t)
-    by-test false true h k t = absurd (true≢false t)
-    by-test false false h k t = (omega (arith, eqb-false per 0 h), ltb-false 65536 per k)

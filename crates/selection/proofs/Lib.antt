@@ -5,7 +5,7 @@ pub mod Picked
 pub mod Copies
 -- both pick lists written a copy at a time
 pub mod Writing
--- Select's refusals as one chain of tests, and what an answer says
+-- Select's refusals, the lists' first, and what each return answers and leaves
 pub mod SelectRefusals
 -- the tests of sound pick lists, an element at a time, and what sound pick lists have
 pub mod SoundLists

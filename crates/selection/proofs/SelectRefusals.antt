@@ -1,76 +1,97 @@
--- Select's refusals as one chain of tests, and what each of its returns says, by the tests before it: a refusal leaves both tables, and
--- success writes both. Assumes nothing.
-use mathlib.Core.Path.{_≡_, refl}
-use mathlib.Core.Bool.{Bool, true, false, true≢false, cond, _||_, or-false}
+-- Select's refusals: those of the lists first, then those of the counts and the tables' room; and what each return says: a refusal leaves
+-- both tables, and success writes both. Assumes nothing.
+use mathlib.Core.Path.{_≡_, refl, sym, _∙_}
+use mathlib.Core.Bool.{true, false, cond, _||_, or-false}
 use mathlib.Core.List.{List, [], _∷_}
-use Prim.Native.Nat.{ℕ, suc, _+_, _≤_, _<_}
+use Prim.Native.Nat.{ℕ, _+_, _≤_}
+use native.Mathlib.Omega.{arith}
 use lib.Dec.{ltb}
 use lib.ListN.{length}
-use borrow.Author.Tests.{ltb-false, lt-ltb, le-ltb}
+use borrow.Author.Tests.{ltb-false, le-ltb}
 use lib.Ieee.{Float}
-use Rattle.cell.specs.Refusals.{firstRefusal}
+use Rattle.cell.specs.Refusals.{Refusal, firstRefusal}
 use Rattle.cell.specs.Limits.{lengths, counts, coordinates, ragged, long, longIndices, anyOver, maxCoordinate, maxIndices, maxCopies, maxPicks}
 use Rattle.cell.specs.Tables.{over}
-use Rattle.selection.specs.Selection.{keptCopies, joined, startsOf, roomRefusals, selectRefusals, selectRefusal, selectValues, selectStarts, selectPicks}
-
-module _ (solutes : List Float) (per : ℕ) (indices starts picks : List ℕ) where
-  -- the tests in the order of their refusals; there are no waters
-  select-chain :
-      let cs = keptCopies solutes per indices in
-      selectRefusal solutes per indices starts picks
-      ≡ cond (ragged solutes) 1 (cond (long solutes || ltb maxIndices (length indices)) 2 (cond (anyOver maxCoordinate solutes) 4 (cond (ltb maxCopies (length cs)) 5 (cond (ltb maxPicks (length (joined cs))) 6 (cond (ltb (length starts) (length cs + 1) || ltb (length picks) (length (joined cs))) 7 0)))))
-  unfolding selectRefusal selectRefusals firstRefusal roomRefusals lengths counts coordinates anyOver ragged long longIndices
-  select-chain = rw (or-false (ragged solutes), or-false (anyOver maxCoordinate solutes))
-
-  -- the number n, the values vs and the tables afterwards are Select's
-  abbrev pub Answers : ℕ → List ℕ → List ℕ → List ℕ → Type 0
-  Answers n vs starts′ picks′ = (n ≡ selectRefusal solutes per indices starts picks) × ((vs ≡ selectValues solutes per indices starts picks) × ((starts′ ≡ selectStarts solutes per indices starts picks) × (picks′ ≡ selectPicks solutes per indices starts picks)))
-
-  -- a refusal leaves both tables
-  refused : (n : ℕ) → selectRefusal solutes per indices starts picks ≡ suc n → Answers (suc n) [] starts picks
-  unfolding selectValues selectStarts selectPicks
-  refused n e = rw e (refl, (refl, (refl, refl)))
-
-  pub refused-1 : ragged solutes ≡ true → Answers 1 [] starts picks
-  refused-1 t1 = refused 0 (rw (select-chain, t1))
-
-  module _ (t1 : ragged solutes ≡ false) where
-    pub refused-2 : (long solutes || ltb maxIndices (length indices)) ≡ true → Answers 2 [] starts picks
-    refused-2 t2 = refused 1 (rw (select-chain, t1, t2))
-
-    module _ (t2 : (long solutes || ltb maxIndices (length indices)) ≡ false) where
-      pub refused-4 : anyOver maxCoordinate solutes ≡ true → Answers 4 [] starts picks
-      refused-4 t3 = refused 3 (rw (select-chain, t1, t2, t3))
-
-      module _ (t3 : anyOver maxCoordinate solutes ≡ false) where
-        pub refused-5 : maxCopies < length (keptCopies solutes per indices) → Answers 5 [] starts picks
-        refused-5 h = refused 4 (rw (select-chain, t1, t2, t3, lt-ltb maxCopies (length (keptCopies solutes per indices)) h))
-
-        module _ (few : length (keptCopies solutes per indices) ≤ maxCopies) where
-          pub refused-6 : maxPicks < length (joined (keptCopies solutes per indices)) → Answers 6 [] starts picks
-          refused-6 h = refused 5 (rw (select-chain, t1, t2, t3, le-ltb maxCopies (length (keptCopies solutes per indices)) few, lt-ltb maxPicks (length (joined (keptCopies solutes per indices))) h))
-
-          module _ (light : length (joined (keptCopies solutes per indices)) ≤ maxPicks) where
-            last-test : selectRefusal solutes per indices starts picks ≡ cond (ltb (length starts) (length (keptCopies solutes per indices) + 1) || ltb (length picks) (length (joined (keptCopies solutes per indices)))) 7 0
-            last-test = rw (select-chain, t1, t2, t3, le-ltb maxCopies (length (keptCopies solutes per indices)) few, le-ltb maxPicks (length (joined (keptCopies solutes per indices))) light)
-
-            pub refused-7 : (ltb (length starts) (length (keptCopies solutes per indices) + 1) || ltb (length picks) (length (joined (keptCopies solutes per indices)))) ≡ true → Answers 7 [] starts picks
-            refused-7 t6 = refused 6 (rw (last-test, t6))
-
-            -- success writes both tables
-            pub selected :
-                let cs = keptCopies solutes per indices in
-                (ltb (length starts) (length cs + 1) || ltb (length picks) (length (joined cs))) ≡ false → Answers 0 (length cs ∷ length (joined cs) ∷ []) (over (startsOf cs) starts) (over (joined cs) picks)
-            unfolding selectValues selectStarts selectPicks
-            selected t6 =
-                let e : selectRefusal solutes per indices starts picks ≡ 0 = rw (last-test, t6) in
-                rw e (refl, (refl, (refl, refl)))
+use Rattle.cell.proofs.FirstRefusal.{numbered, first-none, append-hit, append-skip, neither}
+use Rattle.cell.proofs.Tables.{at-refusal}
+use Rattle.selection.specs.declared.Selected.{Selected}
+use Rattle.selection.specs.declared.Selected.the-variants.{Refused, Kept}
+use Rattle.selection.specs.Selection.{keptCopies, joined, startsOf, listRefusals, roomRefusals, selectRefusals, selectRefusal, selectAnswer, selectStarts, selectPicks}
 
 -- two limits, neither of them passed
 pub both-within : (m n i j : ℕ) → (ltb m n || ltb i j) ≡ false → (n ≤ m) × (j ≤ i)
-both-within m n i j e = by-test (ltb m n) (ltb i j) refl refl e
-  where
-    by-test : (a b : Bool) → ltb m n ≡ a → ltb i j ≡ b → (a || b) ≡ false → (n ≤ m) × (j ≤ i)
-    by-test true b h k t = absurd (true≢false t)
-    by-test false true h k t = absurd (true≢false t)
-    by-test false false h k t = (ltb-false m n h, ltb-false i j k)
+both-within m n i j e =
+    let tests = neither (ltb m n) (ltb i j) e in
+    (ltb-false m n (tests .0), ltb-false i j (tests .1))
+
+-- ---- the lists
+module _ (solutes : List Float) (indices : List ℕ) where
+  -- the tests in the order of their refusals
+  pub list-chain : firstRefusal (listRefusals solutes indices) ≡ cond (ragged solutes) 1 (cond (long solutes || ltb maxIndices (length indices)) 2 (cond (anyOver maxCoordinate solutes) 4 0))
+  unfolding firstRefusal listRefusals lengths counts coordinates anyOver ragged long longIndices
+  list-chain = rw (or-false (ragged solutes), or-false (anyOver maxCoordinate solutes))
+
+  list-numbered : numbered (listRefusals solutes indices) ≡ true
+  unfolding numbered listRefusals lengths counts coordinates
+  list-numbered = refl
+
+  -- lists that none of 1, 2 and 4 refuses are within the limits
+  pub list-none : firstRefusal (listRefusals solutes indices) ≡ 0 → (length solutes ≤ 196608) × (length indices ≤ 256)
+  unfolding listRefusals lengths counts coordinates long longIndices
+  list-none e =
+      let n1 = first-none (lengths solutes []) (counts solutes [] indices ∷ coordinates solutes [] ∷ []) (λ h. omega arith) e in
+      let n2 = first-none (counts solutes [] indices) (coordinates solutes [] ∷ []) (λ h. omega arith) (n1 .1) in
+      both-within 196608 (length solutes) 256 (length indices) (n2 .0)
+
+-- ---- Select
+module _ (solutes : List Float) (per : ℕ) (indices starts picks : List ℕ) where
+  room : List Refusal
+  room = roomRefusals (length (keptCopies solutes per indices)) (length (joined (keptCopies solutes per indices))) (length starts) (length picks)
+
+  -- the answer r and the tables afterwards are Select's
+  abbrev pub Answers : Selected → List ℕ → List ℕ → Type 0
+  Answers r starts′ picks′ = (r ≡ selectAnswer solutes per indices starts picks) × ((starts′ ≡ selectStarts solutes per indices starts picks) × (picks′ ≡ selectPicks solutes per indices starts picks))
+
+  -- a refusal leaves both tables
+  refused : (r : ℕ) → r ≡ selectRefusal solutes per indices starts picks → (r ≡ 0 → ⊥) → Answers (Refused r) starts picks
+  unfolding selectAnswer selectStarts selectPicks
+  refused r e n =
+      let cs = keptCopies solutes per indices in
+      rw (← e) (sym (at-refusal r (Kept (length cs) (length (joined cs))) (Refused r) n), (sym (at-refusal r (over (startsOf cs) starts) starts n), sym (at-refusal r (over (joined cs) picks) picks n)))
+
+  -- success writes both
+  written : selectRefusal solutes per indices starts picks ≡ 0 → let cs = keptCopies solutes per indices in Answers (Kept (length cs) (length (joined cs))) (over (startsOf cs) starts) (over (joined cs) picks)
+  unfolding selectAnswer selectStarts selectPicks
+  written e = rw e (refl, (refl, refl))
+
+  -- a refusal of the lists is the first
+  pub refused-lists : (r : ℕ) → r ≡ firstRefusal (listRefusals solutes indices) → (r ≡ 0 → ⊥) → Answers (Refused r) starts picks
+  unfolding selectRefusal selectRefusals room
+  refused-lists r e n = refused r (e ∙ sym (append-hit (listRefusals solutes indices) room (list-numbered solutes indices) (λ z. n (e ∙ z)))) n
+
+  -- without one the counts and the tables' room decide
+  module _ (none : firstRefusal (listRefusals solutes indices) ≡ 0) where
+    room-decides : selectRefusal solutes per indices starts picks ≡ firstRefusal room
+    unfolding selectRefusal selectRefusals room
+    room-decides = append-skip (listRefusals solutes indices) room (list-numbered solutes indices) none
+
+    module _ (r copies total : ℕ) (few : copies ≡ length (keptCopies solutes per indices)) (light : total ≡ length (joined (keptCopies solutes per indices))) (e : r ≡ firstRefusal (roomRefusals copies total (length starts) (length picks))) where
+      decided : r ≡ selectRefusal solutes per indices starts picks
+      unfolding room
+      decided = e ∙ rw (few, light) (sym room-decides)
+
+      pub refused-room : (r ≡ 0 → ⊥) → Answers (Refused r) starts picks
+      refused-room n = refused r decided n
+
+      pub answered : r ≡ 0 → Answers (Kept copies total) (over (startsOf (keptCopies solutes per indices)) starts) (over (joined (keptCopies solutes per indices)) picks)
+      answered z = rw (few, light) (written (sym decided ∙ z))
+
+  -- success by the tests, one at a time
+  pub selected : ragged solutes ≡ false → (long solutes || ltb maxIndices (length indices)) ≡ false → anyOver maxCoordinate solutes ≡ false → length (keptCopies solutes per indices) ≤ maxCopies → length (joined (keptCopies solutes per indices)) ≤ maxPicks
+      → let cs = keptCopies solutes per indices in
+      (ltb (length starts) (length cs + 1) || ltb (length picks) (length (joined cs))) ≡ false → Answers (Kept (length cs) (length (joined cs))) (over (startsOf cs) starts) (over (joined cs) picks)
+  unfolding firstRefusal roomRefusals room
+  selected t1 t2 t3 few light t6 =
+      let cs = keptCopies solutes per indices in
+      let none : firstRefusal (listRefusals solutes indices) ≡ 0 = list-chain solutes indices ∙ rw (t1, t2, t3) in
+      written (room-decides none ∙ rw (le-ltb maxCopies (length cs) few, le-ltb maxPicks (length (joined cs)) light, t6))

@@ -1,9 +1,9 @@
 -- Sound pick lists: their tests, an element at a time, and what lists that pass them have. Assumes nothing.
 use mathlib.Core.Path.{_≡_, refl, subst}
-use mathlib.Core.Bool.{Bool, true, false, _&&_, and-assoc, and-eq-true-iff}
+use mathlib.Core.Bool.{Bool, true, false, false≢true, _&&_, _||_, and-assoc, and-eq-true-iff}
 use mathlib.Core.List.{List, [], _∷_}
 use Prim.Native.Nat.{ℕ, zero, suc, _+_, _-_, _*_, _/_, _≤_, _<_, zero-le, suc-le-suc}
-use native.Mathlib.Nat.{le-of-suc-le-suc}
+use native.Mathlib.Nat.{le-of-suc-le-suc, zero-add}
 use native.Mathlib.Decide.{decLt}
 use native.Mathlib.Numerals.{add-one}
 use native.Mathlib.Omega.{arith}
@@ -12,12 +12,13 @@ use lib.ListN.{length, getD, drop, length-drop, drop-of-length-le}
 use lib.Seq.{drop-cons}
 use lib.Ieee.{Float, nan}
 use lib.Ieee.Scale.{finite}
-use borrow.Author.Tests.{lt-ltb, le-ltb, ltb-true, le-leb, leb-true, eq-eqb, eqb-true}
+use borrow.Author.Tests.{lt-ltb, le-ltb, ltb-true, ltb-false, lt-leb, le-leb, leb-true, eq-eqb, eqb-true, eqb-false}
 use Rattle.numbers.proofs.Tests.{both}
 use Rattle.cell.specs.Cell.{pointAt, finitePoint}
 use Rattle.cell.specs.Limits.{maxCopies, maxPicks}
+use Rattle.cell.proofs.FirstRefusal.{neither}
 use Rattle.selection.specs.Selection.{finiteAtom}
-use Rattle.selection.specs.Sound.{rises, allFinite, copiesIn, soundStarts, soundLists}
+use Rattle.selection.specs.Sound.{rises, finiteCoordinates, allFinite, copiesIn, soundStarts, soundLists}
 
 -- ---- the starts rise: what is left from a start on decides
 rises-next : (l : List ℕ) (k : ℕ) → suc k < length l → rises (drop k l) ≡ (ltb (getD l k 0) (getD l (suc k) 0) && rises (drop (suc k) l))
@@ -48,47 +49,87 @@ rises-short (a ∷ b ∷ l) h = absurd (omega arith)
 pub rises-none : (l : List ℕ) (i : ℕ) → length l ≤ i → rises (drop (i - 1) l) ≡ true
 rises-none l i h = rises-short (drop (i - 1) l) (simp length-drop (omega arith))
 
+-- ---- every coordinate is finite: what is left from one on decides
+pub coordinates-step : (xs : List Float) (i : ℕ) (all : Bool) → i < length xs → ((all && finite (getD xs i nan)) && finiteCoordinates (drop (i + 1) xs)) ≡ (all && finiteCoordinates (drop i xs))
+unfolding finiteCoordinates
+coordinates-step xs i all h = rw (add-one, drop-cons xs i nan) (and-assoc all (finite (getD xs i nan)) (finiteCoordinates (drop (suc i) xs)))
+
+pub coordinates-none : (xs : List Float) (i : ℕ) → length xs ≤ i → finiteCoordinates (drop i xs) ≡ true
+unfolding finiteCoordinates
+coordinates-none xs i h = rw drop-of-length-le
+
+coordinate-at : (xs : List Float) → finiteCoordinates xs ≡ true → (k : ℕ) → k < length xs → finite (getD xs k nan) ≡ true
+unfolding finiteCoordinates
+coordinate-at [] f k h = absurd (omega arith)
+coordinate-at (x ∷ xs) f zero h = both (finite x) (finiteCoordinates xs) f .0
+coordinate-at (x ∷ xs) f (suc k) h = coordinate-at xs (both (finite x) (finiteCoordinates xs) f .1) k (le-of-suc-le-suc h)
+
 -- ---- each pick names a finite atom: what is left from a pick on decides
-finite-more : (xs : List Float) (ps : List ℕ) (j : ℕ) → j < length ps → allFinite xs (drop j ps) ≡ ((ltb (getD ps j 0 * 3 + 2) (length xs) && finiteAtom xs (getD ps j 0)) && allFinite xs (drop (j + 1) ps))
-unfolding allFinite
-finite-more xs ps j h = rw (add-one, drop-cons ps j 0)
-
--- a pick past the atoms
-pub finite-past : (xs : List Float) (ps : List ℕ) (j : ℕ) → j < length ps → length xs ≤ getD ps j 0 * 3 + 2 → allFinite xs (drop j ps) ≡ false
-finite-past xs ps j h le = rw (finite-more xs ps j h, le-ltb (getD ps j 0 * 3 + 2) (length xs) le)
-
--- an atom that is not finite
-pub finite-hit : (xs : List Float) (ps : List ℕ) (j : ℕ) → j < length ps → getD ps j 0 * 3 + 2 < length xs → finiteAtom xs (getD ps j 0) ≡ false → allFinite xs (drop j ps) ≡ false
-finite-hit xs ps j h lt e = rw (finite-more xs ps j h, lt-ltb (getD ps j 0 * 3 + 2) (length xs) lt, e)
-
-pub finite-skip : (xs : List Float) (ps : List ℕ) (j : ℕ) → j < length ps → getD ps j 0 * 3 + 2 < length xs → finiteAtom xs (getD ps j 0) ≡ true → allFinite xs (drop (j + 1) ps) ≡ allFinite xs (drop j ps)
-finite-skip xs ps j h lt e = rw (finite-more xs ps j h, lt-ltb (getD ps j 0 * 3 + 2) (length xs) lt, e)
-
--- where every coordinate is finite, a pick that names an atom names a finite one
-named : (xs : List Float) (p : ℕ) → ((k : ℕ) → k < length xs → finite (getD xs k nan) ≡ true) → (ltb (p * 3 + 2) (length xs) && finiteAtom xs p) ≡ ltb p (length xs / 3)
-unfolding finiteAtom finitePoint pointAt
-named xs p f = go (decLt (p * 3 + 2) (length xs))
+-- an atom is there where its last coordinate is
+atom-within : (n p : ℕ) → ltb (p * 3 + 2) n ≡ ltb p (n / 3)
+atom-within n p = go (decLt (p * 3 + 2) n)
   where
-    go : Dec (p * 3 + 2 < length xs) → (ltb (p * 3 + 2) (length xs) && finiteAtom xs p) ≡ ltb p (length xs / 3)
-    go (yes l) =
-        rw (lt-ltb (p * 3 + 2) (length xs) l, f (p * 3) (omega arith), f (p * 3 + 1) (omega arith), f (p * 3 + 2) l, lt-ltb p (length xs / 3) (omega arith))
-    go (no m) = rw (le-ltb (p * 3 + 2) (length xs) (omega arith), le-ltb p (length xs / 3) (omega arith))
+    go : Dec (p * 3 + 2 < n) → ltb (p * 3 + 2) n ≡ ltb p (n / 3)
+    go (yes l) = rw (lt-ltb (p * 3 + 2) n l, lt-ltb p (n / 3) (omega arith))
+    go (no m) = rw (le-ltb (p * 3 + 2) n (omega arith), le-ltb p (n / 3) (omega arith))
 
-pub named-step : (xs : List Float) (ps : List ℕ) (j : ℕ) (all : Bool) → ((k : ℕ) → k < length xs → finite (getD xs k nan) ≡ true) → j < length ps → ((all && ltb (getD ps j 0) (length xs / 3)) && allFinite xs (drop (j + 1) ps)) ≡ (all && allFinite xs (drop j ps))
-named-step xs ps j all f h = rw (finite-more xs ps j h, named xs (getD ps j 0) f) (and-assoc all (ltb (getD ps j 0) (length xs / 3)) (allFinite xs (drop (j + 1) ps)))
+-- pick p names a finite atom, as an index does of one copy that has all atoms
+abbrev pub namesFinite : List Float → ℕ → Bool
+namesFinite xs p = ltb p (length xs / 3) && finiteAtom xs (0 + p)
+
+finite-more : (xs : List Float) (ps : List ℕ) (j : ℕ) → j < length ps → allFinite xs (drop j ps) ≡ (namesFinite xs (getD ps j 0) && allFinite xs (drop (j + 1) ps))
+unfolding allFinite
+finite-more xs ps j h = rw (add-one, drop-cons ps j 0, atom-within (length xs) (getD ps j 0), zero-add)
+
+pub finite-hit : (xs : List Float) (ps : List ℕ) (j : ℕ) → j < length ps → namesFinite xs (getD ps j 0) ≡ false → allFinite xs (drop j ps) ≡ false
+finite-hit xs ps j h e = rw (finite-more xs ps j h, e)
+
+pub finite-skip : (xs : List Float) (ps : List ℕ) (j : ℕ) → j < length ps → namesFinite xs (getD ps j 0) ≡ true → allFinite xs (drop (j + 1) ps) ≡ allFinite xs (drop j ps)
+finite-skip xs ps j h e = rw (finite-more xs ps j h, e)
 
 pub finite-none : (xs : List Float) (ps : List ℕ) (j : ℕ) → length ps ≤ j → allFinite xs (drop j ps) ≡ true
 unfolding allFinite
 finite-none xs ps j h = rw drop-of-length-le
 
--- ---- starts that begin at 0 and rise, in a number within the limit: their end decides
-pub starts-rest : (starts : List ℕ) (n : ℕ) → 0 < length starts → length starts ≤ 4097 → getD starts 0 0 ≡ 0 → rises starts ≡ true → soundStarts starts n ≡ (eqb (getD starts (copiesIn starts) 0) n && leb n maxPicks)
+-- where every coordinate is finite, a pick that names an atom names a finite one
+named : (xs : List Float) (p : ℕ) → finiteCoordinates xs ≡ true → namesFinite xs p ≡ ltb p (length xs / 3)
+unfolding finiteAtom finitePoint pointAt
+named xs p f = go (decLt p (length xs / 3))
+  where
+    go : Dec (p < length xs / 3) → namesFinite xs p ≡ ltb p (length xs / 3)
+    go (yes l) = rw (lt-ltb p (length xs / 3) l, zero-add, coordinate-at xs f (p * 3) (omega arith), coordinate-at xs f (p * 3 + 1) (omega arith), coordinate-at xs f (p * 3 + 2) (omega arith))
+    go (no m) = rw (le-ltb p (length xs / 3) (omega arith))
+
+pub named-step : (xs : List Float) (ps : List ℕ) (j : ℕ) (all : Bool) → finiteCoordinates xs ≡ true → j < length ps → ((all && ltb (getD ps j 0) (length xs / 3)) && allFinite xs (drop (j + 1) ps)) ≡ (all && allFinite xs (drop j ps))
+named-step xs ps j all f h = rw (finite-more xs ps j h, named xs (getD ps j 0) f) (and-assoc all (ltb (getD ps j 0) (length xs / 3)) (allFinite xs (drop (j + 1) ps)))
+
+-- ---- the starts' number: outside 1 .. 4,097 they are not sound, and inside the other tests decide
+pub starts-outside : (starts : List ℕ) (n : ℕ) → (eqb (length starts) 0 || ltb 4097 (length starts)) ≡ true → soundStarts starts n ≡ false
 unfolding soundStarts
-starts-rest starts n some few first up = rw (lt-ltb 0 (length starts) some, le-leb (length starts) 4097 few, eq-eqb (getD starts 0 0) 0 first, up)
+starts-outside starts n e = by-test (eqb (length starts) 0) (ltb 4097 (length starts)) refl refl e
+  where
+    by-test : (a b : Bool) → eqb (length starts) 0 ≡ a → ltb 4097 (length starts) ≡ b → (a || b) ≡ true → soundStarts starts n ≡ false
+    by-test true b h k t = rw (le-ltb 0 (length starts) (omega (arith, eqb-true (length starts) 0 h)))
+    by-test false true h k t =
+        let many : 4097 < length starts = ltb-true 4097 (length starts) k in
+        rw (lt-ltb 0 (length starts) (omega arith), lt-leb (length starts) 4097 many)
+    by-test false false h k t = absurd (false≢true t)
+
+pub starts-number : (m : ℕ) → (eqb m 0 || ltb 4097 m) ≡ false → (0 < m) × (m ≤ 4097)
+starts-number m e =
+    let tests = neither (eqb m 0) (ltb 4097 m) e in
+    (omega (arith, eqb-false m 0 (tests .0)), ltb-false 4097 m (tests .1))
+
+starts-inside : (starts : List ℕ) (n : ℕ) → 0 < length starts → length starts ≤ 4097 → soundStarts starts n ≡ (eqb (getD starts 0 0) 0 && (rises starts && (eqb (getD starts (copiesIn starts) 0) n && leb n maxPicks)))
+unfolding soundStarts
+starts-inside starts n some few = rw (lt-ltb 0 (length starts) some, le-leb (length starts) 4097 few)
+
+pub starts-rest : (starts : List ℕ) (n : ℕ) → (eqb (length starts) 0 || ltb 4097 (length starts)) ≡ false → soundStarts starts n ≡ (eqb (getD starts 0 0) 0 && (rises starts && (eqb (getD starts (copiesIn starts) 0) n && leb n maxPicks)))
+starts-rest starts n e = starts-inside starts n (starts-number (length starts) e .0) (starts-number (length starts) e .1)
 
 pub starts-sound : (starts : List ℕ) (n : ℕ) → 0 < length starts → length starts ≤ 4097 → getD starts 0 0 ≡ 0 → rises starts ≡ true → getD starts (copiesIn starts) 0 ≡ n → n ≤ maxPicks → soundStarts starts n ≡ true
 starts-sound starts n some few first up last short =
-    rw (starts-rest starts n some few first up, eq-eqb (getD starts (copiesIn starts) 0) n last, le-leb n maxPicks short)
+    rw (starts-inside starts n some few, eq-eqb (getD starts 0 0) 0 first, up, eq-eqb (getD starts (copiesIn starts) 0) n last, le-leb n maxPicks short)
 
 -- ---- the tests, number by number
 rises-at : (l : List ℕ) → rises l ≡ true → (i : ℕ) → suc i < length l → getD l i 0 < getD l (suc i) 0

@@ -1,7 +1,6 @@
 -- The pick lists that Select writes are sound, and the i-th copy's picks are the i-th kept copy. Assumes nothing.
 use mathlib.Core.Path.{_≡_, refl, _∙_, ap, subst}
 use mathlib.Core.Bool.{Bool, true, false, cond, _&&_, _||_, and-eq-true-iff}
-use mathlib.Mathlib.Data.Bool.Basic.{or-eq-false-eq-eq-false-and-eq-false}
 use mathlib.Core.List.{List, [], _∷_, _++_}
 use Prim.Native.Nat.{ℕ, zero, suc, _+_, _-_, _*_, _/_, _≤_, _<_}
 use native.Mathlib.Nat.{le-of-suc-le-suc, zero-add, sub-zero, suc-mul, div-mul-le-self}
@@ -16,8 +15,9 @@ use Rattle.cell.specs.Limits.{maxCopies, maxPicks, lengths, counts, coordinates
 use Rattle.cell.specs.Refusals.{refuse, firstRefusal}
 use Rattle.cell.specs.Tables.{over}
 use Rattle.cell.proofs.FirstRefusal.{first-none}
-use Rattle.selection.specs.Selection.{finiteAtom, finiteFrom, indexed, orElse, picked, keep, copiesFrom, chunks, keptCopies, joined, startsFrom, startsOf, roomRefusals, selectRefusals, selectRefusal, selectStarts, selectPicks}
+use Rattle.selection.specs.Selection.{finiteAtom, finiteFrom, indexed, orElse, picked, keep, copiesFrom, chunks, keptCopies, joined, startsFrom, startsOf, listRefusals, roomRefusals, selectRefusals, selectRefusal, selectStarts, selectPicks}
 use Rattle.selection.specs.Sound.{rises, allFinite, copiesIn, soundLists}
+use Rattle.selection.proofs.SelectRefusals.{both-within}
 use Rattle.selection.proofs.SoundLists.{starts-sound}
 
 -- ---- what is picked of a copy whose atoms are there is finite
@@ -177,7 +177,7 @@ pub record Room (cs : List (List ℕ)) (starts picks : List ℕ) : Type 0 where
   pub starts-fit : length cs + 1 ≤ length starts
   pub picks-fit : length (joined cs) ≤ length picks
 
-room-none : (cs : List (List ℕ)) (starts picks : List ℕ) → firstRefusal (roomRefusals cs (length starts) (length picks)) ≡ 0 → Room cs starts picks
+pub room-none : (cs : List (List ℕ)) (starts picks : List ℕ) → firstRefusal (roomRefusals (length cs) (length (joined cs)) (length starts) (length picks)) ≡ 0 → Room cs starts picks
 unfolding roomRefusals
 room-none cs starts picks e =
     let five = refuse 5 (ltb maxCopies (length cs)) in
@@ -186,22 +186,23 @@ room-none cs starts picks e =
     let n5 = first-none five (six ∷ seven ∷ []) (λ h. omega arith) e in
     let n6 = first-none six (seven ∷ []) (λ h. omega arith) (n5 .1) in
     let n7 = first-none seven [] (λ h. omega arith) (n6 .1) in
-    let room = or-eq-false-eq-eq-false-and-eq-false (ltb (length starts) (length cs + 1)) (ltb (length picks) (length (joined cs))) .0 (n7 .0) in
+    let room = both-within (length starts) (length cs + 1) (length picks) (length (joined cs)) (n7 .0) in
     record {
       few = ltb-false maxCopies (length cs) (n5 .0);
       short = ltb-false maxPicks (length (joined cs)) (n6 .0);
-      starts-fit = ltb-false (length starts) (length cs + 1) (room .0);
-      picks-fit = ltb-false (length picks) (length (joined cs)) (room .1);
+      starts-fit = room .0;
+      picks-fit = room .1;
     }
 
 module _ (solutes : List Float) (per : ℕ) (is starts picks : List ℕ) (accepted : selectRefusal solutes per is starts picks ≡ 0) where
   pub select-room : Room (keptCopies solutes per is) starts picks
-  unfolding selectRefusal selectRefusals lengths counts coordinates
+  unfolding selectRefusal selectRefusals listRefusals lengths counts coordinates
   select-room =
-      let after = roomRefusals (keptCopies solutes per is) (length starts) (length picks) in
+      let cs = keptCopies solutes per is in
+      let after = roomRefusals (length cs) (length (joined cs)) (length starts) (length picks) in
       let n1 = first-none (lengths solutes []) (counts solutes [] is ∷ coordinates solutes [] ∷ after) (λ h. omega arith) accepted in
       let n2 = first-none (counts solutes [] is) (coordinates solutes [] ∷ after) (λ h. omega arith) (n1 .1) in
-      room-none (keptCopies solutes per is) starts picks (first-none (coordinates solutes []) after (λ h. omega arith) (n2 .1) .1)
+      room-none cs starts picks (first-none (coordinates solutes []) after (λ h. omega arith) (n2 .1) .1)
 
   -- the tables' first entries are the pick lists
   pub starts-selected : take (length (keptCopies solutes per is) + 1) (selectStarts solutes per is starts picks) ≡ startsOf (keptCopies solutes per is)

@@ -2,13 +2,15 @@
 -- Assumes nothing.
 use mathlib.Core.Path.{_≡_, refl, ap, _∙_}
 use mathlib.Core.List.{List, [], _∷_}
-use Prim.Native.Nat.{ℕ, suc, _+_, _≤_, _<_}
+use Prim.Native.Nat.{ℕ, suc, _+_, _-_, _/_, _≤_, _<_}
 use native.Mathlib.Omega.{arith}
 use lib.ListN.{length, set, length-set}
 use lib.Seq.{set-set, drop-set-lt}
+use lib.Ieee.{Float}
 use Rattle.cell.specs.Tables.{placed, over}
 use Rattle.cell.proofs.Tables.{Filling, filling-first, filling-next, filling-append, filling-last, placed-zero}
-use Rattle.selection.specs.Selection.{joined, startsFrom, startsOf}
+use Rattle.selection.specs.Selection.{picked, joined, startsFrom, startsOf}
+use Rattle.selection.proofs.Copies.{copiesLeft, left-kept}
 
 -- where the picks of each copy end: the starts but the first
 unfoldable pub endsFrom : ℕ → List (List ℕ) → List ℕ
@@ -52,6 +54,11 @@ first-over cs starts = rw (drop-set-lt (length (startsFrom 0 cs)) starts 0 0 (om
 pub writing-next : {kept : List (List ℕ)} {starts₀ picks₀ : List ℕ} {p : List ℕ} {rest : List (List ℕ)} {copies at : ℕ} {starts picks : List ℕ} → Writing kept starts₀ picks₀ (p ∷ rest) copies at starts picks → Writing kept starts₀ picks₀ rest (copies + 1) (at + length p) (set starts (copies + 1) (at + length p)) (placed at p picks)
 unfolding endsFrom joined
 writing-next {p = p} z = record { ends = filling-next (z .ends); room = simp length-set (omega (arith, z .room)); put = filling-append p (z .put) }
+
+-- a chunk of which something was picked has room for its end
+pub writing-room : {kept : List (List ℕ)} {starts₀ picks₀ : List ℕ} (xs : List Float) (per : ℕ) (is : List ℕ) (base : ℕ) {copies at end : ℕ} {starts picks : List ℕ} → Writing kept starts₀ picks₀ (copiesLeft xs per is base) copies at starts picks
+    → 0 < per → per ≤ length xs / 3 - base → end ≡ at + length (picked xs per is base) → at < end → copies + 1 < length starts
+writing-room xs per is base z some whole e h = omega (arith, z .room, ap length (left-kept xs per is base some whole (omega arith)))
 
 pub writing-last : {kept : List (List ℕ)} (starts₀ : List ℕ) {picks₀ : List ℕ} {copies at : ℕ} {starts picks : List ℕ} → Writing kept (set starts₀ 0 0) picks₀ [] copies at starts picks → (starts ≡ over (startsOf kept) starts₀) × (picks ≡ over (joined kept) picks₀)
 unfolding endsFrom joined

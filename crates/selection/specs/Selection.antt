@@ -73,23 +73,36 @@ unfolding startsFrom
 startsOf cs = startsFrom 0 cs
 
 -- ---- Select
--- 5, 6 and 7, for pick lists of these copies in tables of these lengths
-unfoldable pub roomRefusals : List (List ℕ) → ℕ → ℕ → List Refusal
-unfolding joined
-roomRefusals cs starts picks =
-    refuse 5 (ltb maxCopies (length cs))
-    ∷ refuse 6 (ltb maxPicks (length (joined cs)))
-    ∷ refuse 7 (ltb starts (length cs + 1) || ltb picks (length (joined cs)))
+-- 1, 2 and 4, of the solutes and the indices; there are no waters
+unfoldable pub listRefusals : List Float → List ℕ → List Refusal
+unfolding lengths counts coordinates
+listRefusals solutes indices = lengths solutes [] ∷ counts solutes [] indices ∷ coordinates solutes [] ∷ []
+
+-- 5, 6 and 7, for so many kept copies and picks in tables of these lengths
+unfoldable pub roomRefusals : ℕ → ℕ → ℕ → ℕ → List Refusal
+roomRefusals copies picks startRoom pickRoom =
+    refuse 5 (ltb maxCopies copies)
+    ∷ refuse 6 (ltb maxPicks picks)
+    ∷ refuse 7 (ltb startRoom (copies + 1) || ltb pickRoom picks)
     ∷ []
 
 unfoldable pub selectRefusals : List Float → ℕ → List ℕ → List ℕ → List ℕ → List Refusal
-unfolding lengths counts coordinates roomRefusals keptCopies
+unfolding listRefusals roomRefusals keptCopies joined
 selectRefusals solutes per indices starts picks =
-    lengths solutes [] ∷ counts solutes [] indices ∷ coordinates solutes [] ∷ roomRefusals (keptCopies solutes per indices) (length starts) (length picks)
+    let cs = keptCopies solutes per indices in
+    listRefusals solutes indices ++ roomRefusals (length cs) (length (joined cs)) (length starts) (length picks)
 
 unfoldable pub selectRefusal : List Float → ℕ → List ℕ → List ℕ → List ℕ → ℕ
 unfolding selectRefusals firstRefusal
 selectRefusal solutes per indices starts picks = firstRefusal (selectRefusals solutes per indices starts picks)
+
+-- what Select answers: the kept copies and the picks, or the refusal's number
+unfoldable pub selectAnswer : List Float → ℕ → List ℕ → List ℕ → List ℕ → Selected
+unfolding selectRefusal keptCopies joined
+selectAnswer solutes per indices starts picks =
+    let r = selectRefusal solutes per indices starts picks in
+    let cs = keptCopies solutes per indices in
+    unlessRefused r (Kept (length cs) (length (joined cs))) (Refused r)
 
 -- the number of each case of an answer: a refusal's own, 0 for success
 abbrev pub refusalOf : Selected → ℕ
@@ -100,11 +113,6 @@ refusalOf (Kept copies picks) = 0
 abbrev pub valuesOf : Selected → List ℕ
 valuesOf (Refused n) = []
 valuesOf (Kept copies picks) = copies ∷ picks ∷ []
-
-unfoldable pub selectValues : List Float → ℕ → List ℕ → List ℕ → List ℕ → List ℕ
-unfolding selectRefusal keptCopies joined
-selectValues solutes per indices starts picks =
-    unlessRefused (selectRefusal solutes per indices starts picks) (length (keptCopies solutes per indices) ∷ length (joined (keptCopies solutes per indices)) ∷ []) []
 
 -- both tables afterwards
 unfoldable pub selectStarts : List Float → ℕ → List ℕ → List ℕ → List ℕ → List ℕ

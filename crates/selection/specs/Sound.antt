@@ -5,6 +5,7 @@ use mathlib.Core.List.{List, [], _∷_}
 use lib.Dec.{ltb, leb, eqb}
 use lib.ListN.{length, getD, take, drop}
 use lib.Ieee.{Float}
+use lib.Ieee.Scale.{finite}
 use Rattle.cell.specs.Limits.{maxCopies, maxPicks}
 use Rattle.cell.specs.Refusals.{Refusal, refuse}
 use Rattle.selection.specs.Selection.{finiteAtom}
@@ -14,6 +15,11 @@ unfoldable pub rises : List ℕ → Bool
 rises [] = true
 rises (a ∷ []) = true
 rises (a ∷ b ∷ xs) = ltb a b && rises (b ∷ xs)
+
+-- every coordinate is finite
+unfoldable pub finiteCoordinates : List Float → Bool
+finiteCoordinates [] = true
+finiteCoordinates (x ∷ xs) = finite x && finiteCoordinates xs
 
 -- each pick names a finite atom
 unfoldable pub allFinite : List Float → List ℕ → Bool

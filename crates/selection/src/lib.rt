@@ -5,13 +5,13 @@ ghost use Prim.Native.Nat.{_+_, _*_, _≤_, _<_};
 ghost use mathlib.Core.Bool.{_&&_};
 ghost use lib.Dec.{ltb};
 ghost use lib.ListN.{length};
+ghost use Rattle.cell.specs.Refusals.{firstRefusal};
 ghost use Rattle.cell.specs.Tables.{placed, over};
-ghost use Rattle.selection.specs.Selection.{finiteAtom, finiteFrom, indexed, picked, keptCopies, joined, startsOf, refusalOf, valuesOf, selectRefusal, selectValues, selectStarts, selectPicks};
+ghost use Rattle.selection.specs.Selection.{finiteAtom, finiteFrom, indexed, picked, keptCopies, joined, startsOf, listRefusals, roomRefusals, selectAnswer, selectStarts, selectPicks};
 
 // sound.rt: whether pick lists are sound
 pub mod sound;
 
-use cell::limits::MAX_ATOMS;
 use cell::limits::MAX_COPIES;
 use cell::limits::MAX_INDICES;
 use cell::limits::MAX_PICKS;
@@ -96,20 +96,18 @@ pub fn count(xs: &[f32], per: usize, indices: &[u32]) -> Counted
 {
     let mut copies: usize = 0;
     let mut picks: usize = 0;
-    if (per == 0) | (per > MAX_ATOMS) {
+    if per == 0 {
         return Counted { copies, picks };
     }
-    let step = per * 3;
-    let mut left = xs.len();
+    let atoms = xs.len() / 3;
     let mut base: usize = 0;
-    while step <= left {
+    while per <= atoms - base {
         let n = count_copy(xs, per, base, indices);
         if n > 0 {
             copies += 1;
         }
         picks += n;
         base += per;
-        left -= step;
     }
     Counted { copies, picks }
 }
@@ -188,15 +186,14 @@ pub fn fill(xs: &[f32], per: usize, indices: &[u32], starts: &mut [u32], picks: 
     ensures { λ r. ⌜ now (picks .exit) ≡ over (joined (keptCopies (now (xs .entry)) per (now (indices .entry)))) (now (picks .entry)) ⌝ }
 {
     starts[0] = 0;
-    if (per == 0) | (per > MAX_ATOMS) {
+    if per == 0 {
         return;
     }
-    let step = per * 3;
-    let mut left = xs.len();
+    let atoms = xs.len() / 3;
     let mut base: usize = 0;
     let mut copies: usize = 0;
     let mut at: usize = 0;
-    while left >= step {
+    while per <= atoms - base {
         let end = put_copy(xs, per, base, indices, picks, at);
         if at < end {
             copies += 1;
@@ -204,8 +201,39 @@ pub fn fill(xs: &[f32], per: usize, indices: &[u32], starts: &mut [u32], picks: 
             at = end;
         }
         base += per;
-        left -= step;
     }
+}
+
+// The first of 1, 2 and 4 that holds, or 0.
+fn list_refusal(solutes: &[f32], indices: &[u32]) -> u32
+    ensures { λ r. ⌜ r ≡ firstRefusal (listRefusals (now (solutes .entry)) (now (indices .entry))) ⌝ }
+{
+    if cell::limits::ragged(solutes) {
+        return 1;
+    }
+    if cell::limits::long(solutes) | (indices.len() > MAX_INDICES) {
+        return 2;
+    }
+    if cell::limits::coordinate_over(solutes) {
+        return 4;
+    }
+    0
+}
+
+// The first of 5, 6 and 7 that holds, or 0, for these counts and tables of these lengths.
+fn room_refusal(n: Counted, start_room: usize, pick_room: usize) -> u32
+    ensures { λ r. ⌜ r ≡ firstRefusal (roomRefusals (n .copies) (n .picks) «start_room» «pick_room») ⌝ }
+{
+    if n.copies > MAX_COPIES {
+        return 5;
+    }
+    if n.picks > MAX_PICKS {
+        return 6;
+    }
+    if (start_room < n.copies + 1) | (pick_room < n.picks) {
+        return 7;
+    }
+    0
 }
 
 // Select: 1, 2, 4, 5, 6, 7 in this order, or both pick lists. `per` is the atoms per copy.
@@ -216,29 +244,18 @@ pub fn select(
     starts: &mut [u32],
     picks: &mut [u32],
 ) -> Selected
-    ensures answer { λ r. ⌜ refusalOf r ≡ selectRefusal (now (solutes .entry)) per (now (indices .entry)) (now (starts .entry)) (now (picks .entry)) ⌝ }
-    ensures values { λ r. ⌜ valuesOf r ≡ selectValues (now (solutes .entry)) per (now (indices .entry)) (now (starts .entry)) (now (picks .entry)) ⌝ }
+    ensures answer { λ r. ⌜ r ≡ selectAnswer (now (solutes .entry)) per (now (indices .entry)) (now (starts .entry)) (now (picks .entry)) ⌝ }
     ensures starts_after { λ r. ⌜ now (starts .exit) ≡ selectStarts (now (solutes .entry)) per (now (indices .entry)) (now (starts .entry)) (now (picks .entry)) ⌝ }
     ensures picks_after { λ r. ⌜ now (picks .exit) ≡ selectPicks (now (solutes .entry)) per (now (indices .entry)) (now (starts .entry)) (now (picks .entry)) ⌝ }
 {
-    if cell::limits::ragged(solutes) {
-        return Selected::Refused(1);
-    }
-    if cell::limits::long(solutes) | (indices.len() > MAX_INDICES) {
-        return Selected::Refused(2);
-    }
-    if cell::limits::coordinate_over(solutes) {
-        return Selected::Refused(4);
+    let unfit = list_refusal(solutes, indices);
+    if unfit != 0 {
+        return Selected::Refused(unfit);
     }
     let n = count(solutes, per, indices);
-    if n.copies > MAX_COPIES {
-        return Selected::Refused(5);
-    }
-    if n.picks > MAX_PICKS {
-        return Selected::Refused(6);
-    }
-    if (starts.len() < n.copies + 1) | (picks.len() < n.picks) {
-        return Selected::Refused(7);
+    let crowded = room_refusal(n, starts.len(), picks.len());
+    if crowded != 0 {
+        return Selected::Refused(crowded);
     }
     fill(solutes, per, indices, starts, picks);
     Selected::Kept {

@@ -5,12 +5,10 @@ use cell::limits::MAX_COPIES;
 use cell::limits::MAX_PICKS;
 ghost use mathlib.Core.Path.{_≡_};
 ghost use mathlib.Core.Bool.{true};
-ghost use Prim.Native.Nat.{ℕ, _+_, _/_, _≤_, _<_};
-ghost use lib.Ieee.{nan};
-ghost use lib.Ieee.Scale.{finite};
+ghost use Prim.Native.Nat.{_+_, _/_, _≤_, _<_};
 ghost use lib.ListN.{length, getD};
 ghost use Rattle.cell.specs.Refusals.{firstRefusal};
-ghost use Rattle.selection.specs.Sound.{rises as risesOf, allFinite, pickList, soundStarts, soundLists};
+ghost use Rattle.selection.specs.Sound.{rises as risesOf, finiteCoordinates, allFinite, pickList, soundStarts, soundLists};
 ghost use Rattle.selection.specs.Input.{inputRefusals};
 
 // Whether each number is below the next. Here and below a loop without a branch lets a processor test several numbers at once.
@@ -28,7 +26,7 @@ fn rises(starts: &[u32]) -> bool
 
 // Whether every coordinate is finite.
 fn coordinates_finite(xs: &[f32]) -> bool
-    ensures { λ r. ⌜ (r ≡ true → (k : ℕ) → k < length (now (xs .entry)) → finite (getD (now (xs .entry)) k nan) ≡ true) ⌝ }
+    ensures { λ r. ⌜ r ≡ finiteCoordinates (now (xs .entry)) ⌝ }
 {
     let mut all = true;
     let mut i = 0;
@@ -42,7 +40,7 @@ fn coordinates_finite(xs: &[f32]) -> bool
 // Whether each pick names a finite atom, where every atom is finite: whether it names one.
 fn all_named(xs: &[f32], picks: &[u32], atoms: u32) -> bool
     requires { ⌜ atoms ≡ length (now xs) / 3 ⌝ }
-    requires { ⌜ ((k : ℕ) → k < length (now xs) → finite (getD (now xs) k nan) ≡ true) ⌝ }
+    requires { ⌜ finiteCoordinates (now xs) ≡ true ⌝ }
     ensures { λ r. ⌜ r ≡ allFinite (now (xs .entry)) (now (picks .entry)) ⌝ }
 {
     let mut all = true;
@@ -58,13 +56,10 @@ fn all_named(xs: &[f32], picks: &[u32], atoms: u32) -> bool
 fn each_finite(xs: &[f32], picks: &[u32]) -> bool
     ensures { λ r. ⌜ r ≡ allFinite (now (xs .entry)) (now (picks .entry)) ⌝ }
 {
+    let atoms = xs.len() / 3;
     let mut j = 0;
     while j < picks.len() {
-        let p = picks[j] as usize;
-        if p * 3 + 2 >= xs.len() {
-            return false;
-        }
-        if !crate::finite_atom(xs, p) {
+        if !crate::named(xs, atoms, 0, picks[j] as usize) {
             return false;
         }
         j += 1;
@@ -86,20 +81,11 @@ fn all_finite(xs: &[f32], picks: &[u32]) -> bool
 fn starts_sound(starts: &[u32], picks: usize) -> bool
     ensures { λ r. ⌜ r ≡ soundStarts (now (starts .entry)) picks ⌝ }
 {
-    if starts.len() == 0 {
-        return false;
-    }
-    if starts.len() > MAX_COPIES + 1 {
+    if (starts.len() == 0) | (starts.len() > MAX_COPIES + 1) {
         return false;
     }
     let last = starts.len() - 1;
-    if starts[0] != 0 {
-        return false;
-    }
-    if !rises(starts) {
-        return false;
-    }
-    (starts[last] as usize == picks) & (picks <= MAX_PICKS)
+    (starts[0] == 0) & (rises(starts) & ((starts[last] as usize == picks) & (picks <= MAX_PICKS)))
 }
 
 // Whether starts and picks are sound pick lists of the solutes xs: what 8 asks for.

@@ -1,23 +1,23 @@
 -- `selection::fill` meets its contract. The loop's invariant: the pick lists of the copies from the chunk at base on are still to be
--- written. The measure is the coordinates left. With no copies the lists are the single start 0 and no picks. Assumes nothing.
-use mathlib.Core.Path.{_≡_, ap, _∙_}
+-- written. The measure is the atoms left. With no copies the lists are the single start 0 and no picks. Assumes nothing.
+use mathlib.Core.Path.{_∙_}
 use mathlib.Core.Logic.{⊎-elim}
-use Prim.Native.Nat.{_≤_, _<_, _+_, _*_, _/_}
+use Prim.Native.Nat.{_≤_, _<_, _+_, _-_, _*_, _/_}
 use native.Mathlib.Omega.{arith}
 use lib.ListN.{length, length-set}
 use Rattle.cell.proofs.Tables.{placed-empty}
 use Rattle.selection.specs.Selection.{keptCopies, picked}
-use Rattle.selection.proofs.Copies.{copiesLeft, left-all, left-none, left-joined, left-kept, left-vanished, kept-outside, per-inside}
-use Rattle.selection.proofs.Writing.{Writing, writing-first, writing-next, writing-last}
+use Rattle.selection.proofs.Copies.{copiesLeft, left-all, left-none, left-joined, left-kept, left-vanished, kept-zero}
+use Rattle.selection.proofs.Writing.{Writing, writing-first, writing-next, writing-room, writing-last}
 use Rattle.selection.proofs.fill.Statement.{statement}
 use Rattle.selection.proofs.fill.Tie as tie
 
 abbrev Inv-loop : tie.InvT-loop
-Inv-loop xs per indices starts₀ picks₀ step left₀ base₀ copies₀ at₀ starts picks left base copies at =
-    (0 < per) × (left + base * 3 ≡ length xs) × Writing (keptCopies xs per indices) starts₀ picks₀ (copiesLeft xs per indices base) copies at starts picks
+Inv-loop xs per indices starts₀ picks₀ atoms base₀ copies₀ at₀ starts picks base copies at =
+    (0 < per) × (base ≤ length xs / 3) × Writing (keptCopies xs per indices) starts₀ picks₀ (copiesLeft xs per indices base) copies at starts picks
 
 abbrev μ-loop : tie.MeasureT-loop
-μ-loop xs per indices starts₀ picks₀ step left₀ base₀ copies₀ at₀ starts picks left base copies at = left
+μ-loop xs per indices starts₀ picks₀ atoms base₀ copies₀ at₀ starts picks base copies at = length xs / 3 - base
 
 slice-write-starts : tie.Need-slice-write-starts Inv-loop μ-loop
 slice-write-starts c = omega arith
@@ -29,47 +29,47 @@ returns : tie.Need-returns Inv-loop μ-loop
 returns c =
     let st = c .before .before .before .before .before in
     let a = st .args in
-    let e = kept-outside (a .xs .now) (a .per) (a .indices .now) (st .pre .0 .0) (c .if1 .taken) in
+    let e = kept-zero (a .xs .now) (a .per) (a .indices .now) (c .if1 .taken) in
     rw e (writing-last (a .starts .now) (rw e at (writing-first (keptCopies (a .xs .now) (a .per) (a .indices .now)) (a .starts .now) (a .picks .now) (st .pre .1 .0) (st .pre .1 .1))))
-
-mul-step : tie.Need-mul-step Inv-loop μ-loop
-mul-step c = omega (arith, per-inside (c .before .before .before .before .before .args .per) (c .if1 .left))
 
 loop-holds : tie.Need-loop-holds Inv-loop μ-loop
 loop-holds c =
     let st = c .before .before .before .before .before in
     let a = st .args in
-    (per-inside (a .per) (c .if1 .left) .0, omega arith, rw (left-all (a .xs .now) (a .per) (a .indices .now)) (writing-first (keptCopies (a .xs .now) (a .per) (a .indices .now)) (a .starts .now) (a .picks .now) (st .pre .1 .0) (st .pre .1 .1)))
+    (omega arith, omega arith, rw (left-all (a .xs .now) (a .per) (a .indices .now)) (writing-first (keptCopies (a .xs .now) (a .per) (a .indices .now)) (a .starts .now) (a .picks .now) (st .pre .1 .0) (st .pre .1 .1)))
+
+sub-loop : tie.Need-sub-loop Inv-loop μ-loop
+sub-loop c = omega arith
 
 put-copy-requires : tie.Need-put-copy-requires Inv-loop μ-loop
 put-copy-requires c κs =
     let lo = c .before .before in
     let a = lo .before .before .before .before .before .before .args in
-    omega (arith, left-joined (a .xs .now) (a .per) (a .indices .now) (lo .loop .base) (omega arith) (omega arith))
+    omega (arith, left-joined (a .xs .now) (a .per) (a .indices .now) (lo .loop .base) (lo .loop .inv .0) (c .before .loop-test .taken))
 
 add-copies : tie.Need-add-copies Inv-loop μ-loop
 add-copies c =
     let lo = c .before .before .before .before .before .before in
     let a = lo .before .before .before .before .before .before .args in
-    omega (arith, length-set (a .starts .now) 0 0, ap length (left-kept (a .xs .now) (a .per) (a .indices .now) (lo .loop .base) (omega arith) (omega arith) (omega arith)))
+    omega (arith, length-set (a .starts .now) 0 0, writing-room (a .xs .now) (a .per) (a .indices .now) (lo .loop .base) (lo .loop .inv .2) (lo .loop .inv .0) (c .before .before .before .before .before .loop-test .taken) (c .before .before .before .put-copy .ensures .0) (c .if2 .taken))
 
 cast-starts : tie.Need-cast-starts Inv-loop μ-loop
 cast-starts c =
     let lo = c .before .before .before .before .before .before in
     let a = lo .before .before .before .before .before .before .args in
-    omega (arith, left-joined (a .xs .now) (a .per) (a .indices .now) (lo .loop .base) (omega arith) (omega arith))
+    omega (arith, left-joined (a .xs .now) (a .per) (a .indices .now) (lo .loop .base) (lo .loop .inv .0) (c .before .before .before .before .before .loop-test .taken))
 
 mul-starts : tie.Need-mul-starts Inv-loop μ-loop
 mul-starts c =
     let lo = c .before .before .before .before .before .before in
     let a = lo .before .before .before .before .before .before .args in
-    omega (arith, length-set (a .starts .now) 0 0, ap length (left-kept (a .xs .now) (a .per) (a .indices .now) (lo .loop .base) (omega arith) (omega arith) (omega arith)))
+    omega (arith, length-set (a .starts .now) 0 0, writing-room (a .xs .now) (a .per) (a .indices .now) (lo .loop .base) (lo .loop .inv .2) (lo .loop .inv .0) (c .before .before .before .before .before .loop-test .taken) (c .before .before .before .put-copy .ensures .0) (c .if2 .taken))
 
 slice-write-starts-2 : tie.Need-slice-write-starts-2 Inv-loop μ-loop
 slice-write-starts-2 c =
     let lo = c .before .before .before .before .before .before in
     let a = lo .before .before .before .before .before .before .args in
-    omega (arith, length-set (a .starts .now) 0 0, ap length (left-kept (a .xs .now) (a .per) (a .indices .now) (lo .loop .base) (omega arith) (omega arith) (omega arith)))
+    omega (arith, writing-room (a .xs .now) (a .per) (a .indices .now) (lo .loop .base) (lo .loop .inv .2) (lo .loop .inv .0) (c .before .before .before .before .before .loop-test .taken) (c .before .before .before .put-copy .ensures .0) (c .if2 .taken))
 
 add-base : tie.Need-add-base Inv-loop μ-loop
 add-base c = omega arith
@@ -79,17 +79,19 @@ loop-less c = omega arith
 
 loop-again : tie.Need-loop-again Inv-loop μ-loop
 loop-again c =
-    let lo = c .before .before .before .before .before .before in
+    let inside = c .before .before .before .before .before in
+    let lo = inside .before in
     let a = lo .before .before .before .before .before .before .args in
     let base = lo .loop .base in
     let put = c .before .before .before .put-copy .ensures in
-    let some : 0 < a .per = omega arith in
-    let whole : base + a .per ≤ length (a .xs .now) / 3 = omega arith in
+    let some = lo .loop .inv .0 in
+    let whole = inside .loop-test .taken in
+    let next : base + a .per ≤ length (a .xs .now) / 3 = omega arith in
     ⊎-elim
-    (λ w. (some, omega arith, rw (w .1, w .2, w .3, put .0, put .1) (writing-next (rw (left-kept (a .xs .now) (a .per) (a .indices .now) base some whole (omega arith)) at (lo .loop .inv .2)))))
+    (λ w. (some, next, rw (w .1, w .2, w .3, put .0, put .1) (writing-next (rw (left-kept (a .xs .now) (a .per) (a .indices .now) base some whole (omega arith)) at (lo .loop .inv .2)))))
     (λ w.
     let none : length (picked (a .xs .now) (a .per) (a .indices .now) base) ≤ 0 = omega arith in
-    (some, omega arith, rw (w .1, w .2, w .3, put .1 ∙ placed-empty (lo .loop .at) (picked (a .xs .now) (a .per) (a .indices .now) base) (lo .loop .picks) none) (rw (left-vanished (a .xs .now) (a .per) (a .indices .now) base some whole none) at (lo .loop .inv .2))))
+    (some, next, rw (w .1, w .2, w .3, put .1 ∙ placed-empty (lo .loop .at) (picked (a .xs .now) (a .per) (a .indices .now) base) (lo .loop .picks) none) (rw (left-vanished (a .xs .now) (a .per) (a .indices .now) base some whole none) at (lo .loop .inv .2))))
     (c .if2 .came)
 
 same-length-2 : tie.Need-same-length-2 Inv-loop μ-loop
@@ -102,7 +104,7 @@ returns-2 : tie.Need-returns-2 Inv-loop μ-loop
 returns-2 c =
     let lo = c .before in
     let a = lo .before .before .before .before .before .before .args in
-    writing-last (a .starts .now) (rw (left-none (a .xs .now) (a .per) (a .indices .now) (lo .loop .base) (omega arith)) at (lo .loop .inv .2))
+    writing-last (a .starts .now) (rw (left-none (a .xs .now) (a .per) (a .indices .now) (lo .loop .base) (c .loop-test .left)) at (lo .loop .inv .2))
 
 pub fill-spec : {M : Type 1} → statement M
 fill-spec =
@@ -113,8 +115,8 @@ fill-spec =
     slice-write-starts
     same-length
     returns
-    mul-step
     loop-holds
+    sub-loop
     put-copy-requires
     add-copies
     cast-starts

@@ -1,6 +1,6 @@
 -- `selection::sound::all_finite` meets its contract: both ways to test the picks have its answer, and the first is taken where every coordinate is
 -- finite. Assumes nothing.
-use mathlib.Core.Path.{refl}
+use mathlib.Core.Path.{refl, sym, _∙_}
 use mathlib.Core.Bool.{and-eq-true-iff}
 use native.Mathlib.Omega.{arith}
 use borrow.Author.Needs.{needs}
@@ -24,7 +24,7 @@ cast-all-named c =
 all-named-requires : tie.Need-all-named-requires
 all-named-requires c κs =
     let st = c .before .before .before .before in
-    (refl, c .before .coordinates-finite .ensures (and-eq-true-iff (leb (length (st .args .xs .now)) 196608) _ .0 (c .if1 .taken) .1))
+    (refl, sym (c .before .coordinates-finite .ensures) ∙ and-eq-true-iff (leb (length (st .args .xs .now)) 196608) _ .0 (c .if1 .taken) .1)
 
 returns : tie.Need-returns
 returns c = search needs

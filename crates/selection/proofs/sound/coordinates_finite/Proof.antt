@@ -1,25 +1,23 @@
--- `selection::sound::coordinates_finite` meets its contract. The loop's invariant: if nothing else was found, each coordinate before `i` is finite.
--- The measure is what is left of the length. Assumes nothing.
-use Prim.Native.Nat.{ℕ, _≤_, _-_, _<_}
-use mathlib.Core.Path.{_≡_, sym, _∙_}
-use mathlib.Core.Bool.{true, and-eq-true-iff}
-use native.Mathlib.Omega.{arith}
-use borrow.Author.Count.{below-none, below-more}
+-- `selection::sound::coordinates_finite` meets its contract. The loop's invariant: what was found before `i`, and the coordinates from `i` on,
+-- decide. The measure is what is left of the length. Assumes nothing.
+use Prim.Native.Nat.{_≤_, _-_}
+use mathlib.Core.Path.{_≡_, refl, sym, ap, _∙_}
+use mathlib.Core.Bool.{Bool, _&&_, and-true}
 use borrow.Author.Needs.{needs}
-use lib.Ieee.{nan}
-use lib.Ieee.Scale.{finite}
-use lib.ListN.{length, getD}
+use lib.ListN.{length, drop}
+use Rattle.selection.specs.Sound.{finiteCoordinates}
+use Rattle.selection.proofs.SoundLists.{coordinates-step, coordinates-none}
 use Rattle.selection.proofs.sound.coordinates_finite.Statement.{statement}
 use Rattle.selection.proofs.sound.coordinates_finite.Tie as tie
 
 abbrev Inv-loop : tie.InvT-loop
-Inv-loop xs all₀ i₀ all i = (i ≤ length xs) × (all ≡ true → (k : ℕ) → k < i → finite (getD xs k nan) ≡ true)
+Inv-loop xs all₀ i₀ all i = (i ≤ length xs) × ((all && finiteCoordinates (drop i xs)) ≡ finiteCoordinates xs)
 
 abbrev μ-loop : tie.MeasureT-loop
 μ-loop xs all₀ i₀ all i = length xs - i
 
 loop-holds : tie.Need-loop-holds Inv-loop μ-loop
-loop-holds c = (search needs, λ e. below-none _)
+loop-holds c = (search needs, refl)
 
 mul-is-finite32 : tie.Need-mul-is-finite32 Inv-loop μ-loop
 mul-is-finite32 c = search needs
@@ -38,11 +36,15 @@ loop-less c = search needs
 
 loop-again : tie.Need-loop-again Inv-loop μ-loop
 loop-again c =
-    let at = c .before .before .before in
-    (search needs, λ e. let both = and-eq-true-iff _ _ .0 e in below-more _ _ (at .loop .inv .1 (both .0)) (sym (c .is-finite32 .ensures) ∙ both .1))
+    let inside = c .before .before in
+    let at = inside .before in
+    (search needs, rw (c .is-finite32 .ensures) (coordinates-step (at .before .before .args .xs .now) (at .loop .i) (at .loop .all) (inside .loop-test .taken) ∙ at .loop .inv .1))
 
 returns : tie.Need-returns Inv-loop μ-loop
-returns c = λ e k l. c .before .loop .inv .1 e k (omega (arith, c .loop-test .left))
+returns c =
+    let at = c .before in
+    let none = coordinates-none (at .before .before .args .xs .now) (at .loop .i) (c .loop-test .left) in
+    sym (and-true (at .loop .all)) ∙ ap (λ (b : Bool). at .loop .all && b) (sym none) ∙ at .loop .inv .1
 
 pub coordinates-finite-spec : {M : Type 1} → statement M
 coordinates-finite-spec =

@@ -7,51 +7,37 @@ use borrow.Author.Needs.{needs}
 use borrow.Author.Tests.{not-true, not-false}
 use lib.ListN.{length, drop}
 use Rattle.selection.specs.Sound.{allFinite}
-use Rattle.selection.proofs.SoundLists.{finite-past, finite-hit, finite-skip, finite-none}
+use Rattle.selection.proofs.SoundLists.{finite-hit, finite-skip, finite-none}
 use Rattle.selection.proofs.sound.each_finite.Statement.{statement}
 use Rattle.selection.proofs.sound.each_finite.Tie as tie
 
 abbrev Inv-loop : tie.InvT-loop
-Inv-loop xs picks j₀ j = (j ≤ length picks) × (allFinite xs (drop j picks) ≡ allFinite xs picks)
+Inv-loop xs picks atoms j₀ j = (j ≤ length picks) × (allFinite xs (drop j picks) ≡ allFinite xs picks)
 
 abbrev μ-loop : tie.MeasureT-loop
-μ-loop xs picks j₀ j = length picks - j
+μ-loop xs picks atoms j₀ j = length picks - j
 
 loop-holds : tie.Need-loop-holds Inv-loop μ-loop
 loop-holds c = (search needs, refl)
 
-mul-p : tie.Need-mul-p Inv-loop μ-loop
-mul-p c = search needs
+mul-named : tie.Need-mul-named Inv-loop μ-loop
+mul-named c = search needs
 
-shared-slice-read-p : tie.Need-shared-slice-read-p Inv-loop μ-loop
-shared-slice-read-p c = search needs
+shared-slice-read-named : tie.Need-shared-slice-read-named Inv-loop μ-loop
+shared-slice-read-named c = search needs
 
-cast-p : tie.Need-cast-p Inv-loop μ-loop
-cast-p c = omega (arith, c .shared-slice-known3 .given (c .before .before .loop .j))
+cast-named : tie.Need-cast-named Inv-loop μ-loop
+cast-named c = omega (arith, c .shared-slice-known3 .given (c .before .before .loop .j))
 
-mul-if1 : tie.Need-mul-if1 Inv-loop μ-loop
-mul-if1 c = omega (arith, c .shared-slice-known3 .given (c .before .before .loop .j))
-
-add-if1 : tie.Need-add-if1 Inv-loop μ-loop
-add-if1 c = omega (arith, c .shared-slice-known3 .given (c .before .before .loop .j))
+named-requires : tie.Need-named-requires Inv-loop μ-loop
+named-requires c κs = omega arith
 
 returns : tie.Need-returns Inv-loop μ-loop
 returns c =
-    let inside = c .before .before in
+    let inside = c .before .before .before in
     let at = inside .before in
     let st = at .before .before .before in
-    sym (finite-past (st .args .xs .now) (st .args .picks .now) (at .loop .j) (inside .loop-test .taken) (c .if1 .taken)) ∙ at .loop .inv .1
-
-finite-atom-requires : tie.Need-finite-atom-requires Inv-loop μ-loop
-finite-atom-requires c κs = search needs
-
-returns-2 : tie.Need-returns-2 Inv-loop μ-loop
-returns-2 c =
-    let within = c .before .before in
-    let inside = within .before .before in
-    let at = inside .before in
-    let st = at .before .before .before in
-    sym (finite-hit (st .args .xs .now) (st .args .picks .now) (at .loop .j) (inside .loop-test .taken) (within .if1 .left) (sym (c .before .finite-atom .ensures) ∙ not-true (c .before .finite-atom .result) (c .if2 .taken))) ∙ at .loop .inv .1
+    sym (finite-hit (st .args .xs .now) (st .args .picks .now) (at .loop .j) (inside .loop-test .taken) (sym (c .before .named .ensures) ∙ not-true (c .before .named .result) (c .if1 .taken))) ∙ at .loop .inv .1
 
 add-j : tie.Need-add-j Inv-loop μ-loop
 add-j c = search needs
@@ -61,14 +47,13 @@ loop-less c = search needs
 
 loop-again : tie.Need-loop-again Inv-loop μ-loop
 loop-again c =
-    let within = c .before .before in
-    let inside = within .before .before in
+    let inside = c .before .before .before in
     let at = inside .before in
     let st = at .before .before .before in
-    (search needs, finite-skip (st .args .xs .now) (st .args .picks .now) (at .loop .j) (inside .loop-test .taken) (within .if1 .left) (sym (c .before .finite-atom .ensures) ∙ not-false (c .before .finite-atom .result) (c .if2 .left)) ∙ at .loop .inv .1)
+    (search needs, finite-skip (st .args .xs .now) (st .args .picks .now) (at .loop .j) (inside .loop-test .taken) (sym (c .before .named .ensures) ∙ not-false (c .before .named .result) (c .if1 .left)) ∙ at .loop .inv .1)
 
-returns-3 : tie.Need-returns-3 Inv-loop μ-loop
-returns-3 c =
+returns-2 : tie.Need-returns-2 Inv-loop μ-loop
+returns-2 c =
     let at = c .before in
     let st = at .before .before .before in
     sym (finite-none (st .args .xs .now) (st .args .picks .now) (at .loop .j) (c .loop-test .left)) ∙ at .loop .inv .1
@@ -80,15 +65,12 @@ each-finite-spec =
     Inv-loop
     μ-loop
     loop-holds
-    mul-p
-    shared-slice-read-p
-    cast-p
-    mul-if1
-    add-if1
+    mul-named
+    shared-slice-read-named
+    cast-named
+    named-requires
     returns
-    finite-atom-requires
-    returns-2
     add-j
     loop-less
     loop-again
-    returns-3)
+    returns-2)

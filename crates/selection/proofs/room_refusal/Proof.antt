@@ -1,0 +1,38 @@
+-- `selection::room_refusal` meets its contract: its tests are the refusals', in their order. Assumes nothing.
+use native.Mathlib.Omega.{arith}
+use borrow.Author.Needs.{needs}
+use borrow.Author.Tests.{lt-ltb, le-ltb}
+use Rattle.cell.specs.Refusals.{firstRefusal}
+use Rattle.selection.specs.Selection.{roomRefusals}
+use Rattle.selection.proofs.room_refusal.Statement.{statement}
+use Rattle.selection.proofs.room_refusal.Tie as tie
+
+returns : tie.Need-returns
+unfolding firstRefusal roomRefusals
+returns c =
+    let n = c .before .before .args .n in
+    rw (lt-ltb 4096 (n .copies) (omega arith))
+
+returns-2 : tie.Need-returns-2
+unfolding firstRefusal roomRefusals
+returns-2 c =
+    let n = c .before .before .before .before .args .n in
+    rw (le-ltb 4096 (n .copies) (omega arith), lt-ltb 65536 (n .picks) (omega arith))
+
+add-if3 : tie.Need-add-if3
+add-if3 c = search needs
+
+returns-3 : tie.Need-returns-3
+unfolding firstRefusal roomRefusals
+returns-3 c =
+    let n = c .before .before .before .before .before .before .before .args .n in
+    rw (le-ltb 4096 (n .copies) (omega arith), le-ltb 65536 (n .picks) (omega arith), c .if3 .taken)
+
+returns-4 : tie.Need-returns-4
+unfolding firstRefusal roomRefusals
+returns-4 c =
+    let n = c .before .before .before .before .before .before .before .args .n in
+    rw (le-ltb 4096 (n .copies) (omega arith), le-ltb 65536 (n .picks) (omega arith), c .if3 .left)
+
+pub room-refusal-spec : {M : Type 1} → statement M
+room-refusal-spec = tie.close (tie.spec returns returns-2 add-if3 returns-3 returns-4)
