@@ -1,8 +1,8 @@
 -- The laws that the proofs of this crate and of the layers above it cite.
 -- the least and the greatest coordinate of some picks
 pub mod Least
--- entries of a table written one after the other
-pub mod Marks
+-- the flags of a copy against the later ones
+pub mod Flags
 -- one axis of the box table, a copy at a time
 pub mod Filling
 -- boxes that a gate keeps apart

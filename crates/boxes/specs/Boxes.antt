@@ -1,12 +1,13 @@
 -- Boxes around the picks of each copy, the box table, and when a gate keeps two boxes apart. Lengths are in angstrom.
 -- Definitions only. Assumes nothing.
 use mathlib.Core.Path.{_≡_}
-use mathlib.Core.Bool.{Bool, _||_}
+use mathlib.Core.Bool.{Bool, _||_, cond}
 use mathlib.Core.List.{List, [], _∷_}
-use Prim.Native.Nat.{ℕ, _+_, _*_, _<_}
+use Prim.Native.Nat.{ℕ, zero, suc, _+_, _-_, _*_, _<_}
 use lib.ListN.{getD}
 use lib.Ieee.{Float, nan, binary32, sub}
 use Rattle.cell.specs.declared.Vec3.{Vec3}
+use Rattle.cell.specs.Tables.{placed}
 use Rattle.selection.specs.Sound.{copiesIn, pickList}
 use Rattle.gates.specs.declared.Gates.{Gates}
 use Rattle.gates.specs.Gates.{larger, smaller, farOf}
@@ -67,3 +68,18 @@ apartOf g b c =
     farOf (g .x) (sub binary32 (c .low .x) (b .high .x)) (sub binary32 (c .high .x) (b .low .x))
     || (farOf (g .y) (sub binary32 (c .low .y) (b .high .y)) (sub binary32 (c .high .y) (b .low .y))
     || farOf (g .z) (sub binary32 (c .low .z) (b .high .z)) (sub binary32 (c .high .z) (b .low .z)))
+
+-- ---- flags, for copy i of a table of n copies
+-- 1 where a gate keeps copies i and j apart, or 0
+abbrev pub apartFlag : Gates → List Float → ℕ → ℕ → ℕ → ℕ
+apartFlag g t n i j = cond (apartOf g (spanAt t n i) (spanAt t n j)) 1 0
+
+-- the flags of k copies, from copy j on
+unfoldable pub flagsFrom : Gates → List Float → ℕ → ℕ → ℕ → ℕ → List ℕ
+flagsFrom g t n i zero j = []
+flagsFrom g t n i (suc k) j = apartFlag g t n i j ∷ flagsFrom g t n i k (suc j)
+
+-- a list of flags after `mark_apart`: each copy after i has its own, and all else keeps its value
+unfoldable pub flagsAfter : Gates → List Float → ℕ → ℕ → List ℕ → List ℕ
+unfolding flagsFrom placed
+flagsAfter g t n i flags = placed (i + 1) (flagsFrom g t n i (n - (i + 1)) (i + 1)) flags

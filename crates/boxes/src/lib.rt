@@ -10,7 +10,7 @@ ghost use Rattle.cell.specs.Cell.{extentOf, pointAt, finitePoint};
 ghost use Rattle.selection.specs.Sound.{soundLists, copiesIn, pickList};
 ghost use Rattle.touch.specs.Touch.{near as nearOf, anyPair, copiesTouch};
 ghost use Rattle.gates.specs.Gates.{gatesOf, tested};
-ghost use Rattle.boxes.specs.Boxes.{coordinate as coordinateOf, leastOf, greatestOf, spanAt, spanOf, Boxes, pointSpan, apartOf};
+ghost use Rattle.boxes.specs.Boxes.{coordinate as coordinateOf, leastOf, greatestOf, spanAt, spanOf, Boxes, pointSpan, apartOf, apartFlag, flagsAfter};
 use cell::Cell;
 use cell::Vec3;
 use gates::Gates;
@@ -139,10 +139,10 @@ fn word(b: bool) -> u32
     0
 }
 
-// Which later copies a gate keeps apart from copy i: 1 at j, or 0. The loop has no branch.
+// Which later copies a gate keeps apart from copy i: 1 at j, or 0; the other flags keep their values. The loop has no branch.
 pub fn mark_apart(g: Gates, boxes: &[f32], flags: &mut [u32], n: usize, i: usize)
     requires { ⌜ (n ≤ 4096) × (i < n) × (6 * n ≤ length (now boxes)) × (n ≤ length (now flags)) ⌝ }
-    ensures { λ _. ⌜ ((j : ℕ) → i < j → j < n → getD (now (flags .exit)) j 0 ≡ cond (apartOf g (spanAt (now (boxes .entry)) n i) (spanAt (now (boxes .entry)) n j)) 1 0) ⌝ }
+    ensures { λ _. ⌜ now (flags .exit) ≡ flagsAfter g (now (boxes .entry)) n i (now (flags .entry)) ⌝ }
 {
     let b = span_at(boxes, n, i);
     let mut j = i + 1;
@@ -228,7 +228,7 @@ pub fn marked_touch(
     requires { ⌜ (g ≡ gatesOf (extentOf cell)) × (tested cell (now xs) ≡ true) ⌝ }
     requires { ⌜ Boxes (now xs) (now starts) (now picks) (now boxes) ⌝ }
     requires { ⌜ (i < copiesIn (now starts)) × (j < copiesIn (now starts)) × (6 * copiesIn (now starts) ≤ length (now boxes)) ⌝ }
-    requires { ⌜ (j < length (now flags)) × (getD (now flags) j 0 ≡ cond (apartOf g (spanAt (now boxes) (copiesIn (now starts)) i) (spanAt (now boxes) (copiesIn (now starts)) j)) 1 0) ⌝ }
+    requires { ⌜ (j < length (now flags)) × (getD (now flags) j 0 ≡ apartFlag g (now boxes) (copiesIn (now starts)) i j) ⌝ }
     ensures { λ r. ⌜ r ≡ copiesTouch cell (now (xs .entry)) (now (starts .entry)) (now (picks .entry)) i j ⌝ }
 {
     if flags[j] != 0 {

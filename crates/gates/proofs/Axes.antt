@@ -1,7 +1,7 @@
 -- An axis of a tested cell: its extent, turns and images are finite, and images keep the order where turns do. The extent is above
 -- 2 ^ -23 and 2 ^ 17 at most, and a separation of two atoms 2 ^ 21 at most in magnitude. Assumes nothing.
 use mathlib.Core.Path.{_≡_, sym}
-use mathlib.Core.Bool.{Bool, true, false, not, _&&_, true≢false}
+use mathlib.Core.Bool.{true, false, not, _&&_, true≢false}
 use mathlib.Core.List.{List}
 use Prim.Native.Nat.{ℕ, _*_, _^_, _≤_, _<_}
 use native.Mathlib.Omega.{arith}

@@ -2,9 +2,8 @@
 // at most 4.2 angstrom apart, by the minimum image.
 ghost use mathlib.Core.Path.{_≡_};
 ghost use mathlib.Core.Bool.{true};
-ghost use Prim.Native.Nat.{ℕ, _+_, _*_, _≤_, _<_};
+ghost use Prim.Native.Nat.{ℕ, _+_, _*_, _<_};
 ghost use lib.ListN.{length, getD};
-ghost use Rattle.cell.specs.Cell.{extentOf};
 ghost use Rattle.selection.specs.Sound.{soundLists, copiesIn};
 ghost use Rattle.touch.specs.Touch.{near as nearOf, anyPair, copiesTouch};
 use cell::Cell;

@@ -9,9 +9,9 @@ use lib.ListN.{length, getD}
 use lib.Dec.{eqb}
 use borrow.Author.Tests.{eq-eqb, ne-eqb, eqb-true}
 use Rattle.union_find.specs.Range.{count}
-use Rattle.union_find.specs.Parents.{walk, rootOf, reachesRoot}
+use Rattle.union_find.specs.Parents.{walk, rootOf, rootWithin, reachesRoot}
 use Rattle.union_find.proofs.Ranges.{count-add, count-le, count-zero}
-use Rattle.union_find.proofs.Forest.{Root, here, up, one-distance, is-root, root-is, walk-ends, Closed, Sound}
+use Rattle.union_find.proofs.Forest.{Root, here, up, one-distance, is-root, root-is, walk-root, walk-ends, Closed, Sound}
 
 -- the root is below n
 pub root-below : {p : List ℕ} {d i r : ℕ} → Closed p → i < length p → Root p d i r → r < length p
@@ -83,18 +83,26 @@ pub reaches-of : {p : List ℕ} {d x s : ℕ} → Closed p → x < length p → 
 unfolding reachesRoot
 reaches-of {p} c l w = rw (root-of c l w) (eq-eqb _ _ (is-root w))
 
--- a root k steps above x
-pub reaches-walk : {p : List ℕ} (k x r : ℕ) → Closed p → x < length p → r ≡ walk p k x → getD p r 0 ≡ r → reachesRoot p x ≡ true
-reaches-walk {p} k x r c l e h = reaches-of c l (walk-ends p k x (rw e at h) .2)
+-- a root that is at most k steps above x
+pub reaches-within : {p : List ℕ} (k : ℕ) {x : ℕ} → Closed p → x < length p → rootWithin p k x ≡ true → reachesRoot p x ≡ true
+unfolding rootWithin
+reaches-within {p} k {x} c l h = reaches-of c l (walk-ends p k x (eqb-true _ _ h) .2)
 
 -- steps above steps
 pub walk-four : (p : List ℕ) (x b r : ℕ) → b ≡ walk p 2 x → r ≡ walk p 2 b → r ≡ walk p 4 x
 unfolding walk
 walk-four p x b r e f = f ∙ ap (walk p 2) e
 
-pub walk-eight : (p : List ℕ) (x b r : ℕ) → b ≡ walk p 4 x → r ≡ walk p 4 b → r ≡ walk p 8 x
-unfolding walk
-walk-eight p x b r e f = f ∙ ap (walk p 4) e
+-- the copy b four steps above x is a root, or the copy r four steps above b decides
+pub within-four : (p : List ℕ) (x b : ℕ) → b ≡ walk p 4 x → getD p b 0 ≡ b → true ≡ rootWithin p 8 x
+unfolding rootWithin walk
+within-four p x b e h =
+    let w : walk p 8 x ≡ b = ap (walk p 4) (sym e) ∙ walk-root p 4 b h in
+    sym (eq-eqb _ _ (ap (λ (k : ℕ). getD p k 0) w ∙ h ∙ sym w))
+
+pub within-eight : (p : List ℕ) (x b r : ℕ) → b ≡ walk p 4 x → r ≡ walk p 4 b → eqb (getD p r 0) r ≡ rootWithin p 8 x
+unfolding rootWithin walk
+within-eight p x b r e f = ap (λ (k : ℕ). eqb (getD p k 0) k) (f ∙ ap (walk p 4) e)
 
 pub reaches-root : (p : List ℕ) (x : ℕ) → reachesRoot p x ≡ true → (d : ℕ) × (s : ℕ) × Root p d x s
 unfolding reachesRoot rootOf

@@ -1,7 +1,6 @@
 -- Document 01, 'Clusters': the parents of n copies, a list of n numbers. Copy i stands under copy `getD p i 0`, and a root under itself.
 -- Definitions only. Assumes nothing.
-use mathlib.Core.Path.{_≡_}
-use mathlib.Core.Bool.{Bool, true, cond, _&&_}
+use mathlib.Core.Bool.{Bool, cond, _&&_}
 use mathlib.Core.List.{List}
 use Prim.Native.Nat.{ℕ, zero, suc}
 use lib.ListN.{length, getD, set}
@@ -35,6 +34,11 @@ unfolding compressed rootOf
 joined p a b =
     let q = compressed (compressed p a) b in
     cond (eqb (rootOf p a) (rootOf p b)) q (set q (rootOf p b) (rootOf p a))
+
+-- copy i has its root at most k steps above it
+unfoldable pub rootWithin : List ℕ → ℕ → ℕ → Bool
+unfolding walk
+rootWithin p k i = eqb (getD p (walk p k i) 0) (walk p k i)
 
 -- copy i reaches its own root in n steps
 unfoldable pub reachesRoot : List ℕ → ℕ → Bool

@@ -3,11 +3,12 @@
 // list, cycles and chains of depth n included: local arrays of 4,096 words remember what was seen.
 ghost use mathlib.Core.Path.{_≡_};
 ghost use mathlib.Core.Bool.{true};
+ghost use mathlib.Core.List.{_++_};
 ghost use Prim.Native.Nat.{ℕ, _+_, _<_, _≤_};
-ghost use lib.ListN.{length, getD, take};
+ghost use lib.ListN.{length, getD, drop};
 ghost use lib.Dec.{ltb};
 ghost use Rattle.union_find.specs.Range.{allBelow};
-ghost use Rattle.union_find.specs.Parents.{walk, rootOf, compressed, joined, reachesRoot, soundParents, largestSet};
+ghost use Rattle.union_find.specs.Parents.{walk, rootOf, compressed, joined, rootWithin, reachesRoot, soundParents, largestSet};
 ghost use Rattle.union_find.specs.Stamps.{Stamped};
 
 // The most copies that a list can have.
@@ -80,7 +81,7 @@ fn four_up(parent: &[u32], i: u32) -> u32
 fn near_root(parent: &[u32], i: u32) -> bool
     requires { ⌜ allBelow (length (now parent)) (λ i. ltb (getD (now parent) i 0) (length (now parent))) ≡ true ⌝ }
     requires { ⌜ i < length (now parent) ⌝ }
-    ensures { λ r. ⌜ (r ≡ true → reachesRoot (now (parent .entry)) i ≡ true) ⌝ }
+    ensures { λ r. ⌜ r ≡ rootWithin (now (parent .entry)) 8 i ⌝ }
 {
     let k = four_up(parent, i);
     if parent[k as usize] == k {
@@ -95,7 +96,7 @@ fn near_root(parent: &[u32], i: u32) -> bool
 fn shallow(parent: &[u32]) -> bool
     requires { ⌜ allBelow (length (now parent)) (λ i. ltb (getD (now parent) i 0) (length (now parent))) ≡ true ⌝ }
     requires { ⌜ length (now parent) ≤ 4096 ⌝ }
-    ensures { λ r. ⌜ (r ≡ true → (k : ℕ) → k < length (now (parent .entry)) → reachesRoot (now (parent .entry)) k ≡ true) ⌝ }
+    ensures { λ r. ⌜ r ≡ allBelow (length (now (parent .entry))) (rootWithin (now (parent .entry)) 8) ⌝ }
 {
     let mut i = 0;
     while i < parent.len() {
@@ -159,10 +160,10 @@ pub fn is_sound(parent: &[u32]) -> bool
     all_end(parent, &mut seen)
 }
 
-// Copies the parents to the front of p.
+// Copies the parents to the front of p; the rest of p keeps its values.
 fn copy_in(parent: &[u32], p: &mut [u32])
     requires { ⌜ length (now parent) ≤ length (now p) ⌝ }
-    ensures { λ _. ⌜ take (length (now (parent .entry))) (now (p .exit)) ≡ now (parent .entry) ⌝ }
+    ensures { λ _. ⌜ now (p .exit) ≡ now (parent .entry) ++ drop (length (now (parent .entry))) (now (p .entry)) ⌝ }
 {
     let mut i = 0;
     while i < parent.len() {

@@ -1,7 +1,5 @@
 -- `touch::copies_touch` meets its contract: the picks of both copies are searched. Assumes nothing.
-use mathlib.Core.Path.{_≡_, sym, ap, ap₂, _∙_}
 use borrow.Author.Needs.{needs}
-use Rattle.selection.specs.Sound.{pickList}
 use Rattle.selection.proofs.SoundLists.{sound-lists}
 use Rattle.selection.proofs.CopyPicks.{copy-part, copy-atoms}
 use Rattle.touch.specs.Touch.{copiesTouch}

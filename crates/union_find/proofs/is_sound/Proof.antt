@@ -3,8 +3,9 @@
 use mathlib.Core.Path.{sym, _∙_}
 use borrow.Author.Needs.{needs}
 use borrow.Author.Tests.{not-true, not-false}
-use Rattle.union_find.proofs.Ranges.{all-true}
-use Rattle.union_find.proofs.Forest.{sound-not, sound-rest}
+use Rattle.union_find.proofs.Ranges.{all-true, all-at}
+use Rattle.union_find.proofs.Forest.{closed-of, sound-not, sound-rest}
+use Rattle.union_find.proofs.Trails.{reaches-within}
 use Rattle.union_find.proofs.Climbs.{stamped-none}
 use Rattle.union_find.proofs.is_sound.Statement.{statement}
 use Rattle.union_find.proofs.is_sound.Tie as tie
@@ -24,7 +25,9 @@ shallow-requires c κs = (sym (c .before .all-below .ensures) ∙ not-false _ (c
 returns-2 : tie.Need-returns-2
 returns-2 c =
     let b = c .before .before in
-    sym (all-true _ _ (c .before .shallow .ensures (c .if2 .taken))) ∙ sound-rest _ (sym (b .before .all-below .ensures) ∙ not-false _ (b .if1 .left))
+    let low = sym (b .before .all-below .ensures) ∙ not-false _ (b .if1 .left) in
+    let near = sym (c .before .shallow .ensures) ∙ c .if2 .taken in
+    sym (all-true _ _ (λ k l. reaches-within 8 (closed-of _ low) l (all-at _ _ k near l))) ∙ sound-rest _ low
 
 slice-aggregate-all-end : tie.Need-slice-aggregate-all-end
 slice-aggregate-all-end c = search needs

@@ -1,11 +1,18 @@
 -- `union_find::largest_in` meets its contract: what is lent to the search is a copy of the parents, and the search finds their largest set.
 -- Assumes nothing.
-use mathlib.Core.Path.{sym, ap, _∙_}
+use mathlib.Core.Path.{_≡_, sym, ap, _∙_}
+use mathlib.Core.List.{List, _++_}
+use Prim.Native.Nat.{ℕ}
 use borrow.Author.Needs.{needs}
-use lib.ListN.{length}
+use lib.ListN.{length, take, drop}
+use lib.Seq.{take-append-seam}
 use Rattle.union_find.specs.Parents.{largestSet}
 use Rattle.union_find.proofs.largest_in.Statement.{statement}
 use Rattle.union_find.proofs.largest_in.Tie as tie
+
+-- the part that is lent is the copy
+lent : (xs ys₀ ys : List ℕ) → ys ≡ xs ++ drop (length xs) ys₀ → take (length xs) ys ≡ xs
+lent xs ys₀ ys e = rw e (take-append-seam xs (drop (length xs) ys₀))
 
 copy-in-requires : tie.Need-copy-in-requires
 copy-in-requires c κs = search needs
@@ -14,12 +21,14 @@ slice-relend-prefix-greatest-size : tie.Need-slice-relend-prefix-greatest-size
 slice-relend-prefix-greatest-size c = search needs
 
 slice-aggregate-greatest-size : tie.Need-slice-aggregate-greatest-size
-slice-aggregate-greatest-size c = sym (ap length (c .before .before .before .copy-in .ensures))
+slice-aggregate-greatest-size c =
+    let st = c .before .before .before .before .before .before .before .before in
+    sym (ap length (lent (st .args .parent .now) (st .args .p .now) _ (c .before .before .before .copy-in .ensures)))
 
 greatest-size-requires : tie.Need-greatest-size-requires
 greatest-size-requires c κs =
     let st = c .before .before .before .before .before .before .before .before .before in
-    rw (c .before .before .before .before .copy-in .ensures) ((st .pre .0 .0, st .pre .0 .1, st .pre .1 .0 .1), st .pre .1 .1)
+    rw (lent _ _ _ (c .before .before .before .before .copy-in .ensures)) ((st .pre .0 .0, st .pre .0 .1, st .pre .1 .0 .1), st .pre .1 .1)
 
 same-length : tie.Need-same-length
 same-length c = search needs
@@ -30,7 +39,7 @@ same-length-2 c = search needs
 returns : tie.Need-returns
 returns c =
     let b = c .before .before .before .before in
-    b .greatest-size .ensures ∙ ap largestSet (b .before .before .before .before .before .copy-in .ensures)
+    b .greatest-size .ensures ∙ ap largestSet (lent _ _ _ (b .before .before .before .before .before .copy-in .ensures))
 
 pub largest-in-spec : {M : Type 1} → statement M
 largest-in-spec =

@@ -1,8 +1,6 @@
--- `union_find::near_root` meets its contract: a root four or eight steps above i is the root of i. Assumes nothing.
+-- `union_find::near_root` meets its contract: a walk stays at a root four steps up, and otherwise the copy eight steps up decides. Assumes nothing.
 use borrow.Author.Needs.{needs}
-use borrow.Author.Tests.{eqb-true}
-use Rattle.union_find.proofs.Forest.{closed-of}
-use Rattle.union_find.proofs.Trails.{reaches-walk, walk-eight}
+use Rattle.union_find.proofs.Trails.{within-four, within-eight}
 use Rattle.union_find.proofs.near_root.Statement.{statement}
 use Rattle.union_find.proofs.near_root.Tie as tie
 
@@ -19,10 +17,7 @@ shared-slice-read-if1 : tie.Need-shared-slice-read-if1
 shared-slice-read-if1 c = search needs
 
 returns : tie.Need-returns
-returns c =
-    let far = c .before .before in
-    let st = far .before .before in
-    λ e. reaches-walk 4 (st .args .i) (far .four-up .result) (closed-of _ (st .pre .0)) (st .pre .1) (far .four-up .ensures .0) (c .if1 .taken)
+returns c = within-four _ _ _ (c .before .before .four-up .ensures .0) (c .if1 .taken)
 
 four-up-requires-2 : tie.Need-four-up-requires-2
 four-up-requires-2 c κs = search needs
@@ -37,12 +32,7 @@ shared-slice-read-result : tie.Need-shared-slice-read-result
 shared-slice-read-result c = search needs
 
 returns-2 : tie.Need-returns-2
-returns-2 c =
-    let further = c .before in
-    let far = further .before .before .before in
-    let st = far .before .before in
-    λ e. reaches-walk 8 (st .args .i) (further .four-up2 .result) (closed-of _ (st .pre .0)) (st .pre .1)
-    (walk-eight _ _ _ _ (far .four-up .ensures .0) (further .four-up2 .ensures .0)) (eqb-true _ _ e)
+returns-2 c = let further = c .before in within-eight _ _ _ _ (further .before .before .before .four-up .ensures .0) (further .four-up2 .ensures .0)
 
 pub near-root-spec : {M : Type 1} → statement M
 near-root-spec =
