@@ -10,23 +10,24 @@ use native.Mathlib.Decide.{decLt, decLe}
 use lib.ListN.{length, replicate, length-replicate}
 use lib.Dec.{eqb, ltb, leb}
 use borrow.Author.Tests.{eq-eqb, ne-eqb, lt-ltb, le-ltb, le-leb, lt-leb}
-use Rattle.cell.specs.Refusals.{firstRefusal}
+use Rattle.cell.specs.Refusals.{firstRefusal, answerOf}
 use Rattle.cell.specs.Tables.{unlessRefused}
 use Rattle.union_find.specs.Parents.{largestSet}
 use Rattle.union_find.proofs.Forest.{decide}
 use Rattle.union_find.proofs.Ranges.{and-false}
-use Rattle.clusters.specs.Table.{parents, words, opened, rowTable}
-use Rattle.clusters.specs.Answers.{tableRefusals}
+use Rattle.cluster_table.specs.Table.{parents, words, opened}
+use Rattle.clusters.specs.Answers.{rowTable, tableRefusals}
 use Rattle.clusters.specs.Graph.{Largest, graph, contactGraph}
+use Rattle.clusters.specs.Order.{isAccepted}
 use Rattle.clusters.proofs.Holds.{Holds}
 use Rattle.clusters.proofs.Rows.{ltb-skip, with-row, holds-same, row-table-holds}
 use Rattle.clusters.proofs.Opening.{opened-holds}
 use Rattle.clusters.proofs.Lengths.{row-length}
 use Rattle.clusters.proofs.Held.{row-answer, largest-held}
 
--- the rows accepted, with i where its answer r is acceptance
+-- the rows accepted, with i where Row, whose first refusal is r, answers acceptance
 abbrev pub with-answer : ℕ → ℕ → (ℕ → Bool) → ℕ → Bool
-with-answer i r acc k = acc k || (eqb i k && eqb r 0)
+with-answer i r acc k = acc k || (eqb i k && isAccepted (answerOf r))
 
 -- the table holds the graph of the rows `acc`, and their marks
 abbrev pub State : (ℕ → ℕ → Bool) → ℕ → (ℕ → Bool) → List ℕ → Type 0
@@ -44,7 +45,7 @@ module _ (touch : ℕ → ℕ → Bool) (n : ℕ) where
   pub state-first : (lent : List ℕ) → words n ≤ length lent → State touch n (λ i. false) (opened n lent)
   state-first lent h = opened-holds n (graph touch n (λ i. false)) bare lent h
 
-  -- ---- a row: r is its answer, `frame` what the refusals of the input give
+  -- ---- a row: r is its first refusal, `frame` what the refusals of the input give
   module _ (acc : ℕ → Bool) (t : List ℕ) (i : ℕ) (s : State touch n acc t) where
     -- a row that its table does not refuse is below n and not accepted before
     fresh-row : _≡_ {A = ℕ} 0 (cond (leb n i) 10 (cond (acc i) 11 0)) → (i < n) × (acc i ≡ false)
@@ -69,7 +70,7 @@ module _ (touch : ℕ → ℕ → Bool) (n : ℕ) where
         (row-table-holds touch n acc i (f .0) (f .1) s)
     state-answer frame (suc r) e =
         same-rows acc (with-answer i (suc r) acc) t
-        (λ k. sym (or-false (acc k)) ∙ ap (λ (b : Bool). acc k || b) (sym (and-false (eqb i k) (eqb (suc r) 0) (ne-eqb (suc r) 0 (λ z. omega arith))))) s
+        (λ k. sym (or-false (acc k)) ∙ ap (λ (b : Bool). acc k || b) (sym (and-false (eqb i k) false refl))) s
 
   -- it keeps the table's length
   pub answer-length : (t : List ℕ) (i r : ℕ) → length (unlessRefused r (rowTable touch n i t) t) ≡ length t

@@ -8,6 +8,8 @@ use lib.Ieee.{Float, binary32, ofBits, ofInt, add, sub, mul, div, lt, le, neg}
 use Rattle.numbers.specs.Whole.{roundOf}
 use Rattle.cell.specs.Cell.{extentOf, validAxis, valid, minImage, imageAxis, squared, minus, distance2, pointAt, finitePoint}
 use Rattle.cell.specs.Limits.{over, anyOver, ragged, long, longIndices, boundOver, lengths, counts, bounds, coordinates, validity, limitRefusals, frameRefusals}
+use Rattle.cell.specs.declared.Answer.{Answer}
+use Rattle.cell.specs.declared.Answer.the-variants.{Accepted, Refused}
 use Rattle.cell.specs.Refusals.{firstRefusal}
 use Rattle.cell.proofs.Examples.{upTo}
 use Rattle.selection.specs.Selection.{finiteAtom}
@@ -16,9 +18,12 @@ use Rattle.selection.specs.Input.{inputRefusals}
 use Rattle.touch.specs.Touch.{cutoff2, near, anyIn, anyPair, copiesTouch}
 use Rattle.union_find.specs.Range.{allBelow, count, greatest}
 use Rattle.union_find.specs.Parents.{walk, rootOf, shortened, compressed, joined, reachesRoot, soundParents, setSize, largestSet}
-use Rattle.clusters.specs.Table.{upFrom, opened, counted, contact, pass, rowTable, soundWords, soundTable}
-use Rattle.clusters.specs.Answers.{openRefusals, openRefusal, openLeaves, tableRefusals, rowRefusal, rowLeaves, closeRefusals, closeRefusal, ratio, threeFractions, tableFractions, closeFractions}
-use Rattle.clusters.specs.Order.{Input, touchOf, Call, row, close, reopen, answer, leaves, after}
+use Rattle.cluster_table.specs.Table.{upFrom, opened, counted, contact, soundWords, soundTable}
+use Rattle.cluster_table.specs.Fractions.{ratio, threeFractions, tableFractions}
+use Rattle.clusters.specs.declared.Closing.{Closing}
+use Rattle.clusters.specs.declared.Closing.the-variants as closing
+use Rattle.clusters.specs.Answers.{pass, rowTable, openRefusals, openRefusal, openLeaves, tableRefusals, rowRefusal, rowLeaves, closeRefusals, closeRefusal, closeAnswer}
+use Rattle.clusters.specs.Order.{Input, touchOf, Call, row, close, reopen, rowAnswer, openAnswer, leaves, after}
 
 -- the copies stand at (2, 2, 2), (4, 2, 2), (8, 2, 2) and (2, 8, 2)
 abbrev pub two : Float
@@ -46,27 +51,38 @@ lent = replicate 15 9
 abbrev pub opening : List ℕ
 opening = openLeaves 4 lent
 
+-- what a call answers: Row and Open acceptance or a refusal, Close the fractions or a refusal
+pub data Answered : Type 0 where
+  took : Answer → Answered
+  gave : Closing → Answered
+
+pub answerTo : Input → List ℕ → Call → Answered
+answerTo f t (row i) = took (rowAnswer f t i)
+answerTo f t close = gave (closeAnswer t)
+answerTo f t (reopen k) = took (openAnswer k t)
+
 -- what each call of a list answers
-pub answersOf : Input → List ℕ → List Call → List ℕ
+pub answersOf : Input → List ℕ → List Call → List Answered
 answersOf f t [] = []
-answersOf f t (c ∷ cs) = answer f t c ∷ answersOf f (leaves f t c) cs
+answersOf f t (c ∷ cs) = answerTo f t c ∷ answersOf f (leaves f t c) cs
 
 abbrev pub calls : List Call
 calls = row 3 ∷ row 2 ∷ row 1 ∷ row 7 ∷ row 1 ∷ close ∷ reopen 4097 ∷ reopen 5 ∷ row 0 ∷ close ∷ []
 
 pub record Worked : Type 0 where
-  -- the row 7 is past the copies, the second row 1 comes again, Close comes too early, 4,097 copies are too many and five need 17 words
-  pub answers : answersOf input opening calls ≡ 0 ∷ 0 ∷ 0 ∷ 10 ∷ 11 ∷ 12 ∷ 5 ∷ 7 ∷ 0 ∷ 0 ∷ []
+  -- the row 7 is past the copies, the second row 1 comes again, Close comes too early, 4,097 copies are too many and five need 17 words;
+  -- the fractions are 2 of 3, 3 of 4 and 2 of 6
+  pub answers : answersOf input opening calls
+      ≡ took Accepted ∷ took Accepted ∷ took Accepted ∷ took (Refused 10) ∷ took (Refused 11) ∷ gave (closing.Refused 12) ∷ took (Refused 5) ∷ took (Refused 7) ∷ took Accepted
+      ∷ gave (closing.Fractions (ofBits binary32 0x3f2a_aaab) (ofBits binary32 0x3f40_0000) (ofBits binary32 0x3eaa_aaab)) ∷ []
   -- n and the contacts, the parents (0 over 1, 1 over 2), the degrees, the marks, and the word past the table
   pub table : after input opening calls ≡ 4 ∷ 2 ∷ 0 ∷ 0 ∷ 1 ∷ 3 ∷ 1 ∷ 2 ∷ 1 ∷ 0 ∷ 1 ∷ 1 ∷ 1 ∷ 1 ∷ 9 ∷ []
-  -- 2 of 3, 3 of 4 and 2 of 6
-  pub fractions : closeFractions (after input opening calls) ≡ ofBits binary32 0x3f2a_aaab ∷ ofBits binary32 0x3f40_0000 ∷ ofBits binary32 0x3eaa_aaab ∷ []
 
 pub worked : Worked
-unfolding input answersOf firstRefusal inputRefusals frameRefusals limitRefusals lengths counts bounds coordinates validity soundness ragged long longIndices
+unfolding input answerTo answersOf firstRefusal inputRefusals frameRefusals limitRefusals lengths counts bounds coordinates validity soundness ragged long longIndices
     boundOver anyOver over valid validAxis extentOf soundLists soundStarts rises allFinite finiteAtom finitePoint pointAt touchOf copiesTouch
     pickList anyPair anyIn near cutoff2 distance2 squared minImage imageAxis minus roundOf allBelow count greatest walk rootOf shortened
     compressed joined reachesRoot soundParents setSize largestSet upFrom opened counted contact pass rowTable soundWords soundTable
     openRefusals openRefusal openLeaves tableRefusals rowRefusal rowLeaves closeRefusals closeRefusal ratio threeFractions tableFractions
-    closeFractions answer leaves after ofBits ofInt add sub mul div lt le neg
-worked = record { answers = refl; table = refl; fractions = refl }
+    closeAnswer leaves after ofBits ofInt add sub mul div lt le neg
+worked = record { answers = refl; table = refl }

@@ -1,11 +1,10 @@
 -- What Row and Close answer on a table that holds a graph: neither 7 nor 9 comes, and Close's numbers are the graph's.
 -- Assumes nothing.
-use mathlib.Core.Path.{_≡_, refl, sym, ap, ap₂, _∙_, subst}
-use mathlib.Core.Bool.{Bool, true, false, cond, not, _&&_}
+use mathlib.Core.Path.{_≡_, refl, sym, ap, _∙_, subst}
+use mathlib.Core.Bool.{Bool, true, false, cond}
 use mathlib.Core.Logic.{_⊎_, ⊎-elim}
 use mathlib.Core.List.{List}
-use Prim.Native.Nat.{ℕ, zero, suc, _≤_, _<_}
-use native.Mathlib.Nat.{le-refl}
+use Prim.Native.Nat.{ℕ, _≤_, _<_}
 use native.Mathlib.Omega.{arith}
 use native.Mathlib.Decide.{decLe}
 use lib.ListN.{length}
@@ -15,22 +14,20 @@ use Rattle.cell.specs.Refusals.{firstRefusal}
 use Rattle.union_find.specs.Range.{bit, allBelow, count}
 use Rattle.union_find.specs.Parents.{largestSet}
 use Rattle.union_find.proofs.Forest.{sound-parents}
-use Rattle.union_find.proofs.Ranges.{all-true, count-same, bit-le}
-use Rattle.clusters.specs.Table.{parents, degree, mark, words, soundWords, soundTable}
-use Rattle.clusters.specs.Answers.{tableRefusals, closeRefusal, closeFractions, threeFractions, tableFractions}
+use Rattle.union_find.proofs.Ranges.{all-true, all-false, all-same, count-same, bit-le}
+use Rattle.cluster_table.specs.Table.{parents, degree, mark, words, soundWords, soundTable}
+use Rattle.cluster_table.specs.Fractions.{threeFractions, tableFractions}
+use Rattle.cluster_table.proofs.Parts.{parents-length}
+use Rattle.cluster_table.proofs.Checks.{words-right, table-words}
+use Rattle.clusters.specs.declared.Closing.the-variants.{Refused}
+use Rattle.clusters.specs.Answers.{tableRefusals, closed, closeAnswer}
 use Rattle.clusters.specs.Graph.{degreeOf, contactsOf, Largest}
-use Rattle.clusters.proofs.Parts.{parents-length}
+use Rattle.clusters.specs.Order.{graphFractions}
 use Rattle.clusters.proofs.Holds.{Holds}
 use Rattle.clusters.proofs.Sums.{contacts-few, degree-below}
-use Rattle.clusters.proofs.Checks.{words-right, table-words}
 use Rattle.clusters.proofs.Refusals.{table-chain}
-use Rattle.clusters.proofs.Closes.{close-last, gives}
+use Rattle.clusters.proofs.Closes.{waits, gives}
 use Rattle.clusters.proofs.Largest.{largest-of, one-largest}
-
-all-same : (n : ℕ) (f g : ℕ → Bool) → ((k : ℕ) → k < n → f k ≡ g k) → allBelow n f ≡ allBelow n g
-unfolding allBelow
-all-same zero f g h = refl
-all-same (suc n) f g h = ap₂ _&&_ (all-same n f g (λ k l. h k (omega arith))) (h n (le-refl (suc n)))
 
 -- below two copies the largest cluster does not count
 under-two : (n m k c e : ℕ) → n < 2 → threeFractions n m c e ≡ threeFractions n k c e
@@ -70,10 +67,17 @@ module _ {n : ℕ} {g : ℕ → ℕ → Bool} {acc : ℕ → Bool} {t : List ℕ
   all-marks : allBelow n (λ i. eqb (mark n t i) 1) ≡ allBelow n acc
   all-marks = all-same n (λ i. eqb (mark n t i) 1) acc mark-test
 
-  pub close-answer : n ≤ 4096 → closeRefusal t ≡ cond (not (allBelow n acc)) 12 0
-  close-answer l = close-last t n (sym (s .own)) (omega (arith, s .long)) (s .long) l true (sym sound-table) refl ∙ rw all-marks
+  -- some row is not accepted
+  pub close-waits : n ≤ 4096 → (i : ℕ) → i < n → acc i ≡ false → closeAnswer t ≡ Refused 12
+  close-waits l i h e =
+      sym (waits t n (sym (s .own)) (omega (arith, s .long)) (s .long) l true (sym sound-table) refl false (sym (all-marks ∙ all-false n acc i h e)) refl)
 
-  fractions-are : tableFractions t ≡ threeFractions n (largestSet (parents n t)) (count n (λ i. ltb 0 (degreeOf n g i))) (contactsOf n g)
+  -- every row is accepted
+  pub close-full : n ≤ 4096 → ((i : ℕ) → i < n → acc i ≡ true) → closeAnswer t ≡ closed (tableFractions t)
+  close-full l a =
+      sym (gives t n (sym (s .own)) (omega (arith, s .long)) (s .long) l true (sym sound-table) refl true (sym (all-marks ∙ all-true n acc a)) refl (tableFractions t) refl)
+
+  fractions-are : tableFractions t ≡ graphFractions n g (largestSet (parents n t))
   unfolding tableFractions
   fractions-are =
       rw (
@@ -88,15 +92,11 @@ module _ {n : ℕ} {g : ℕ → ℕ → Bool} {acc : ℕ → Bool} {t : List ℕ
       subst (λ (k : ℕ). Largest k g (largestSet (parents n t))) size
       (largest-of (parents n t) (s .sound) (rw size (s .sets)) (rw size l))
 
-  -- the fractions, for the size m of the largest cluster
-  pub close-gives : n ≤ 4096 → ((i : ℕ) → i < n → acc i ≡ true) → (m : ℕ) → (n < 2) ⊎ Largest n g m
-      → closeFractions t ≡ threeFractions n m (count n (λ i. ltb 0 (degreeOf n g i))) (contactsOf n g)
-  close-gives l a m c =
-      sym (gives t n (sym (s .own)) (omega (arith, s .long)) (s .long) l true (sym sound-table) refl true (sym (all-marks ∙ all-true n acc a)) refl 0 (tableFractions t) refl refl .1)
-      ∙ fractions-are
-      ∙ ⊎-elim few (λ z. ap (λ (k : ℕ). threeFractions n k (count n (λ i. ltb 0 (degreeOf n g i))) (contactsOf n g)) (one-largest (largest-held (omega (arith, z .below))) z)) c
-    where
-      few : n < 2
-          → threeFractions n (largestSet (parents n t)) (count n (λ i. ltb 0 (degreeOf n g i))) (contactsOf n g)
-          ≡ threeFractions n m (count n (λ i. ltb 0 (degreeOf n g i))) (contactsOf n g)
-      few h = under-two n (largestSet (parents n t)) m (count n (λ i. ltb 0 (degreeOf n g i))) (contactsOf n g) h
+  one-size : (m : ℕ) → (n < 2) ⊎ Largest n g m → graphFractions n g (largestSet (parents n t)) ≡ graphFractions n g m
+  one-size m c =
+      ⊎-elim (λ h. under-two n (largestSet (parents n t)) m (count n (λ i. ltb 0 (degreeOf n g i))) (contactsOf n g) h)
+      (λ z. ap (graphFractions n g) (one-largest (largest-held (omega (arith, z .below))) z)) c
+
+  -- the fractions of the graph, for the size m of its largest cluster
+  pub close-gives : n ≤ 4096 → ((i : ℕ) → i < n → acc i ≡ true) → (m : ℕ) → (n < 2) ⊎ Largest n g m → closeAnswer t ≡ closed (graphFractions n g m)
+  close-gives l a m c = close-full l a ∙ ap closed (fractions-are ∙ one-size m c)

@@ -9,14 +9,14 @@ use native.Mathlib.Omega.{arith}
 use lib.ListN.{length}
 use Rattle.union_find.specs.Range.{bit, count}
 use Rattle.union_find.specs.Parents.{rootOf, joined}
-use Rattle.clusters.specs.Table.{copies, contacts, parents, degree, mark, words, contact}
+use Rattle.cluster_table.specs.Table.{copies, contacts, parents, degree, mark, words, contact}
 use Rattle.clusters.specs.Graph.{Chain, either, degreeOf, contactsOf}
 use Rattle.union_find.proofs.Forest.{decide, Sound}
 use Rattle.union_find.proofs.Ranges.{count-same, count-add, total-add}
 use Rattle.union_find.proofs.Joins.{joins}
+use Rattle.cluster_table.proofs.Contacts.{wrote}
+use Rattle.cluster_table.proofs.Parts.{parents-length}
 use Rattle.clusters.proofs.Chains.{or-right, Adds, adds-inside, merge}
-use Rattle.clusters.proofs.Contacts.{wrote}
-use Rattle.clusters.proofs.Parts.{parents-length}
 
 pub record Holds (n : ℕ) (g : ℕ → ℕ → Bool) (acc : ℕ → Bool) (t : List ℕ) : Type 0 where
   pub long : words n ≤ length t

@@ -7,7 +7,8 @@ use native.Mathlib.Omega.{arith}
 use lib.ListN.{length, getD, set, length-set, length-append, length-take, length-drop}
 use lib.Dec.{eqb}
 use Rattle.union_find.specs.Parents.{rootOf, shortened, compressed, joined}
-use Rattle.clusters.specs.Table.{parents, withParents, counted, contact, pass, rowTable}
+use Rattle.cluster_table.specs.Table.{parents, withParents, counted, contact}
+use Rattle.clusters.specs.Answers.{pass, rowTable}
 
 -- a test between two lists of one length
 either-length : (b : Bool) (p q : List ℕ) (n : ℕ) → length p ≡ n → length q ≡ n → length (cond b p q) ≡ n

@@ -1,10 +1,6 @@
 -- Laws that belong to no one function: first the table and the graph, then the order rule, last what serves the code's steps.
 -- chains of contacts are an equivalence, and one contact more joins two of them
 pub mod Chains
--- parents, degrees and marks are each their own part of the table
-pub mod Parts
--- what one contact writes
-pub mod Contacts
 -- a table that holds a graph, and the same with one contact more
 pub mod Holds
 -- how many contacts a graph can have
@@ -21,7 +17,7 @@ pub mod Largest
 pub mod Held
 -- one call: it keeps the table equal to the graph of the accepted rows
 pub mod Calls
--- the order rule, and that the fractions do not depend on the order
+-- the order rule, and that Close's answer does not depend on the order
 pub mod OrderRule
 -- every row in rising order: each is accepted
 pub mod Scans
@@ -31,14 +27,8 @@ pub mod Examples
 pub mod Refusals
 -- Row's refusals, test by test
 pub mod RowRefusals
--- Close's refusals, test by test, and its fractions
+-- Close's answer, test by test
 pub mod Closes
--- the test of a table, part by part
-pub mod Checks
--- the loops that open a table
-pub mod Fills
--- the steps of `add_contact`
-pub mod Steps
 -- what input has that nothing refuses
 pub mod Accepted
 -- the loop of a row

@@ -9,12 +9,12 @@ use lib.ListN.{length, getD, take, drop, replicate, length-append, length-drop, 
 use lib.Seq.{take-at, getD-append-add}
 use Rattle.union_find.specs.Range.{count, total}
 use Rattle.union_find.specs.Parents.{rootOf}
-use Rattle.clusters.specs.Table.{words, upFrom, opened}
+use Rattle.cluster_table.specs.Table.{words, upFrom, opened}
 use Rattle.clusters.specs.Graph.{Chain, stop, on, either, degreeOf, contactsOf}
 use Rattle.union_find.proofs.Ranges.{count-zero}
 use Rattle.union_find.proofs.Forest.{here, root-is, Sound}
 use Rattle.union_find.proofs.Trails.{sound-of}
-use Rattle.clusters.proofs.Fills.{up-length}
+use Rattle.cluster_table.proofs.Fills.{up-length}
 use Rattle.clusters.proofs.Chains.{or-cases}
 use Rattle.clusters.proofs.Holds.{Holds}
 

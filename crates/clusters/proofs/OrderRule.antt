@@ -1,31 +1,44 @@
 -- The order rule (document 01, demand 3). By induction on the list of calls: each call keeps the table equal to the graph of the rows
--- accepted so far, so every call of the list and the Close after it answer by that graph. Assumes nothing.
+-- accepted so far, so at each point of the list every call answers by that graph. Assumes nothing.
 use mathlib.Core.Path.{_≡_, refl, sym, ap, _∙_, subst}
-use mathlib.Core.Bool.{Bool, true, false, cond, not, _||_, or-assoc, or-false}
+use mathlib.Core.Bool.{Bool, true, false, true≢false, cond, not, _||_, or-assoc, or-false}
 use mathlib.Core.Logic.{inl, inr}
 use mathlib.Core.List.{List, [], _∷_, _++_}
-use Prim.Native.Nat.{ℕ, _≤_, _<_}
+use Prim.Native.Nat.{ℕ, zero, suc, _≤_, _<_}
 use native.Mathlib.Omega.{arith}
 use native.Mathlib.Decide.{decLt}
 use lib.ListN.{length}
 use lib.Dec.{eqb, leb}
-use borrow.Author.Tests.{not-true, eqb-false}
-use Rattle.cell.specs.Refusals.{Refusal, refuse, firstRefusal}
+use Rattle.cell.specs.declared.Answer.the-variants.{Accepted, Refused}
+use Rattle.cell.specs.Refusals.{Refusal, refuse, firstRefusal, answerOf, numberOf}
 use Rattle.cell.specs.Tables.{unlessRefused}
 use Rattle.cell.proofs.FirstRefusal.{first-append}
-use Rattle.cell.proofs.Tables.{at-refusal, at-none}
+use Rattle.cell.proofs.Tables.{at-none, number-answered}
 use Rattle.selection.specs.Input.{inputRefusals}
 use Rattle.selection.proofs.InputRefusals.{input-numbered}
 use Rattle.union_find.proofs.Ranges.{and-left, and-right}
-use Rattle.clusters.specs.Table.{words, opened, rowTable}
-use Rattle.clusters.specs.Answers.{tableRefusals, openRefusal, openLeaves, rowRefusal, rowLeaves, closeFractions}
-use Rattle.clusters.specs.Order.{Input, copiesOf, touchOf, Call, row, close, reopen, answer, leaves, after, accepts, accepted, neverReopened, ruled, Ruled, OrderRule}
+use Rattle.cluster_table.specs.Table.{words, opened}
+use Rattle.clusters.specs.Answers.{rowTable, tableRefusals, openRefusal, openLeaves, rowRefusal, rowLeaves, closeAnswer}
+use Rattle.clusters.specs.Order.{Input, copiesOf, touchOf, Call, row, close, reopen, openAnswer, leaves, after, isAccepted, accepts, accepted, neverReopened, Ruled, OrderRule}
 use Rattle.clusters.proofs.Refusals.{open-room, open-same}
 use Rattle.clusters.proofs.Rows.{holds-same}
-use Rattle.clusters.proofs.Held.{row-answer, close-answer, close-gives}
+use Rattle.clusters.proofs.Held.{row-answer, close-waits, close-gives}
 use Rattle.clusters.proofs.Calls.{State, same-rows, state-first, state-answer, answer-length, full, largest-contact}
 
+-- an accepted call had no refusal
+none-accepted : (r : ℕ) → answerOf r ≡ Accepted → r ≡ 0
+none-accepted r e = sym (number-answered numberOf Refused Accepted refl (λ k. refl) r) ∙ ap numberOf e
+
+-- a call that is not accepted changes nothing
+not-accepted : (r : ℕ) (x y : List ℕ) → not (isAccepted (answerOf r)) ≡ true → unlessRefused r x y ≡ y
+not-accepted zero x y e = absurd (true≢false (sym e))
+not-accepted (suc r) x y e = refl
+
 module _ (f : Input) where
+  -- Row i's first refusal on a table
+  abbrev row-number : List ℕ → ℕ → ℕ
+  row-number t i = rowRefusal (f .cell) (f .solutes) (f .starts) (f .picks) t i
+
   unfoldable pub inputs : List Refusal
   inputs = inputRefusals (f .cell) (f .solutes) [] (f .starts) (f .picks)
 
@@ -34,12 +47,12 @@ module _ (f : Input) where
   unfolding inputs
   first-of rs = first-append inputs rs (input-numbered (f .cell) (f .solutes) [] (f .starts) (f .picks))
 
-  row-is : (t : List ℕ) (i : ℕ) → answer f t (row i) ≡ firstRefusal (inputs ++ tableRefusals (copiesOf f) t i)
-  unfolding inputs answer rowRefusal
+  row-is : (t : List ℕ) (i : ℕ) → row-number t i ≡ firstRefusal (inputs ++ tableRefusals (copiesOf f) t i)
+  unfolding inputs rowRefusal
   row-is t i = refl
 
-  pub row-leaves : (t : List ℕ) (i : ℕ) → leaves f t (row i) ≡ unlessRefused (answer f t (row i)) (rowTable (touchOf f) (copiesOf f) i t) t
-  unfolding leaves rowLeaves answer touchOf
+  pub row-leaves : (t : List ℕ) (i : ℕ) → leaves f t (row i) ≡ unlessRefused (row-number t i) (rowTable (touchOf f) (copiesOf f) i t) t
+  unfolding leaves rowLeaves touchOf
   row-leaves t i = refl
 
   close-leaves : (t : List ℕ) → leaves f t close ≡ t
@@ -52,12 +65,12 @@ module _ (f : Input) where
   held : List ℕ → Call → Bool
   held t (row i) = true
   held t close = true
-  held t (reopen k) = not (eqb (openRefusal k t) 0)
+  held t (reopen k) = not (isAccepted (openAnswer k t))
 
   -- a refused Open changes nothing
   reopen-leaves : (t : List ℕ) (k : ℕ) → held t (reopen k) ≡ true → leaves f t (reopen k) ≡ t
   unfolding leaves openLeaves held
-  reopen-leaves t k e = at-refusal (openRefusal k t) (opened k t) t (eqb-false (openRefusal k t) 0 (not-true (eqb (openRefusal k t) 0) e))
+  reopen-leaves t k e = not-accepted (openRefusal k t) (opened k t) t e
 
   -- the table after a call holds the graph of the rows accepted before and of that call's
   call-state : (acc : ℕ → Bool) (t : List ℕ) (c : Call) → held t c ≡ true → State (touchOf f) (copiesOf f) acc t
@@ -65,14 +78,14 @@ module _ (f : Input) where
   unfolding accepts
   call-state acc t (row i) e s =
       rw (row-leaves t i)
-      (state-answer (touchOf f) (copiesOf f) acc t i s (firstRefusal inputs) (answer f t (row i)) (row-is t i ∙ first-of (tableRefusals (copiesOf f) t i)))
+      (state-answer (touchOf f) (copiesOf f) acc t i s (firstRefusal inputs) (row-number t i) (row-is t i ∙ first-of (tableRefusals (copiesOf f) t i)))
   call-state acc t close e s =
       rw (close-leaves t) (same-rows (touchOf f) (copiesOf f) acc (λ k. acc k || false) t (λ k. sym (or-false (acc k))) s)
   call-state acc t (reopen k) e s =
       rw (reopen-leaves t k e) (same-rows (touchOf f) (copiesOf f) acc (λ k. acc k || false) t (λ k. sym (or-false (acc k))) s)
 
   call-length : (t : List ℕ) (c : Call) → held t c ≡ true → length (leaves f t c) ≡ length t
-  call-length t (row i) e = ap length (row-leaves t i) ∙ answer-length (touchOf f) (copiesOf f) t i (answer f t (row i))
+  call-length t (row i) e = ap length (row-leaves t i) ∙ answer-length (touchOf f) (copiesOf f) t i (row-number t i)
   call-length t close e = ap length (close-leaves t)
   call-length t (reopen k) e = ap length (reopen-leaves t k e)
 
@@ -82,13 +95,13 @@ module _ (f : Input) where
   unfolding neverReopened held
   never-first t (row i) cs e = refl
   never-first t close cs e = refl
-  never-first t (reopen k) cs e = and-left (not (eqb (openRefusal k t) 0)) _ e
+  never-first t (reopen k) cs e = and-left (not (isAccepted (openAnswer k t))) _ e
 
   never-rest : (t : List ℕ) (c : Call) (cs : List Call) → neverReopened f t (c ∷ cs) ≡ true → neverReopened f (leaves f t c) cs ≡ true
   unfolding neverReopened leaves
   never-rest t (row i) cs e = e
   never-rest t close cs e = e
-  never-rest t (reopen k) cs e = and-right (not (eqb (openRefusal k t) 0)) _ e
+  never-rest t (reopen k) cs e = and-right (not (isAccepted (openAnswer k t))) _ e
 
   -- what a list keeps to, its first calls keep to
   never-part : (t : List ℕ) (cs ds : List Call) → neverReopened f t (cs ++ ds) ≡ true → neverReopened f t cs ≡ true
@@ -98,8 +111,8 @@ module _ (f : Input) where
   never-part t (close ∷ cs) ds e = never-part t cs ds e
   never-part t (reopen k ∷ cs) ds e =
       rw (
-        and-left (not (eqb (openRefusal k t) 0)) _ e,
-        never-part (leaves f t (reopen k)) cs ds (and-right (not (eqb (openRefusal k t) 0)) _ e),
+        and-left (not (isAccepted (openAnswer k t))) _ e,
+        never-part (leaves f t (reopen k)) cs ds (and-right (not (isAccepted (openAnswer k t))) _ e),
       )
 
   runs : (cs : List Call) (acc : ℕ → Bool) (t : List ℕ) → neverReopened f t cs ≡ true → State (touchOf f) (copiesOf f) acc t
@@ -117,70 +130,58 @@ module _ (f : Input) where
   runs-length [] t e = refl
   runs-length (c ∷ cs) t e = runs-length cs (leaves f t c) (never-rest t c cs e) ∙ call-length t c (never-first t c cs e)
 
-  -- ---- what a call answers, and the rule
-  module _ (acc : ℕ → Bool) (t : List ℕ) (few : copiesOf f ≤ 4096) (s : State (touchOf f) (copiesOf f) acc t) where
-    pub rows-rule : (i : ℕ) → answer f t (row i) ≡ firstRefusal (inputs ++ (refuse 10 (leb (copiesOf f) i) ∷ refuse 11 (acc i) ∷ []))
-    unfolding firstRefusal
-    rows-rule i =
-        row-is t i ∙ first-of (tableRefusals (copiesOf f) t i)
-        ∙ ap (λ (r : ℕ). cond (eqb (firstRefusal inputs) 0) r (firstRefusal inputs)) (row-answer s i)
-        ∙ sym (first-of (refuse 10 (leb (copiesOf f) i) ∷ refuse 11 (acc i) ∷ []))
+  -- what Row answers
+  pub rows-rule : (acc : ℕ → Bool) (t : List ℕ) → State (touchOf f) (copiesOf f) acc t → (i : ℕ)
+      → row-number t i ≡ firstRefusal (inputs ++ (refuse 10 (leb (copiesOf f) i) ∷ refuse 11 (acc i) ∷ []))
+  unfolding firstRefusal
+  rows-rule acc t s i =
+      row-is t i ∙ first-of (tableRefusals (copiesOf f) t i)
+      ∙ ap (λ (r : ℕ). cond (eqb (firstRefusal inputs) 0) r (firstRefusal inputs)) (row-answer s i)
+      ∙ sym (first-of (refuse 10 (leb (copiesOf f) i) ∷ refuse 11 (acc i) ∷ []))
 
-    call-rule : (t₀ : List ℕ) → length t ≡ length t₀ → (c : Call) → answer f t c ≡ ruled f t₀ acc c
-    unfolding answer ruled firstRefusal inputs
-    call-rule t₀ e (row i) = rows-rule i
-    call-rule t₀ e close = close-answer s few
-    call-rule t₀ e (reopen k) = open-same k t t₀ e
-
-  module _ (lent : List ℕ) (taken : openRefusal (copiesOf f) lent ≡ 0) where
+  -- ---- the rule, from the opened table on
+  module _ (lent : List ℕ) (taken : openAnswer (copiesOf f) lent ≡ Accepted) where
     t₀ : List ℕ
     t₀ = openLeaves (copiesOf f) lent
 
+    none : openRefusal (copiesOf f) lent ≡ 0
+    none = none-accepted (openRefusal (copiesOf f) lent) taken
+
     room : (copiesOf f ≤ 4096) × (words (copiesOf f) ≤ length lent)
-    room = open-room (copiesOf f) lent taken
+    room = open-room (copiesOf f) lent none
 
     start : State (touchOf f) (copiesOf f) (λ i. false) t₀
     unfolding t₀ openLeaves
     start =
-        rw (at-none (openRefusal (copiesOf f) lent) (opened (copiesOf f) lent) lent taken)
+        rw (at-none (openRefusal (copiesOf f) lent) (opened (copiesOf f) lent) lent none)
         (state-first (touchOf f) (copiesOf f) lent (room .1))
 
-    whole : (cs : List Call) → neverReopened f t₀ cs ≡ true → State (touchOf f) (copiesOf f) (accepted f t₀ cs) (after f t₀ cs)
-    whole cs e = runs cs (λ i. false) t₀ e start
-
-    rules : (cs : List Call) → neverReopened f t₀ cs ≡ true → Ruled f t₀ cs
+    rules : (cs : List Call) → neverReopened f t₀ cs ≡ true → Ruled f t₀ (after f t₀ cs) (accepted f t₀ cs)
+    unfolding inputs
     rules cs e =
-        let s = whole cs e in
+        let s : State (touchOf f) (copiesOf f) (accepted f t₀ cs) (after f t₀ cs) = runs cs (λ i. false) t₀ e start in
         record {
           sets = s .sets;
           degrees = s .degrees;
           contacts-are = s .contacts-are;
-          answers = λ before c rest d.
-              let b = never-part t₀ before (c ∷ rest) (subst (λ (x : List Call). neverReopened f t₀ x ≡ true) d e) in
-              call-rule (accepted f t₀ before) (after f t₀ before) (room .0) (whole before b) t₀ (runs-length before t₀ b) c;
+          rows = λ i. ap answerOf (rows-rule (accepted f t₀ cs) (after f t₀ cs) s i);
+          opens = λ k. ap answerOf (open-same k (after f t₀ cs) t₀ (runs-length cs t₀ e));
+          waits = close-waits s (room .0);
           gives = λ h m c. close-gives (holds-same s (full (touchOf f) (copiesOf f) (accepted f t₀ cs) h)) (room .0) h m c;
           largest = largest-contact (touchOf f) (copiesOf f);
         }
 
 pub order-rule : OrderRule
 unfolding t₀
-order-rule f lent cs taken e = rules f lent taken cs e
+order-rule f lent cs taken e before rest d =
+    rules f lent taken before (never-part f (openLeaves (copiesOf f) lent) before rest (subst (λ (x : List Call). neverReopened f (openLeaves (copiesOf f) lent) x ≡ true) d e))
 
--- however the rows were ordered, and whatever the lent table held, the fractions are the same
-pub any-order : (f : Input) (lent lent′ : List ℕ) (cs ds : List Call)
-    → openRefusal (copiesOf f) lent ≡ 0 → openRefusal (copiesOf f) lent′ ≡ 0
-    → neverReopened f (openLeaves (copiesOf f) lent) cs ≡ true → neverReopened f (openLeaves (copiesOf f) lent′) ds ≡ true
-    → ((i : ℕ) → i < copiesOf f → accepted f (openLeaves (copiesOf f) lent) cs i ≡ true)
-    → ((i : ℕ) → i < copiesOf f → accepted f (openLeaves (copiesOf f) lent′) ds i ≡ true)
-    → closeFractions (after f (openLeaves (copiesOf f) lent) cs) ≡ closeFractions (after f (openLeaves (copiesOf f) lent′) ds)
-any-order f lent lent′ cs ds o o′ e e′ a b = go (decLt (copiesOf f) 2)
+-- however the rows were ordered, and whatever the lent tables held: at any two points where every row is accepted Close answers the same
+pub any-order : {f : Input} {t₀ t u₀ u : List ℕ} {acc bcc : ℕ → Bool} → Ruled f t₀ t acc → Ruled f u₀ u bcc
+    → ((i : ℕ) → i < copiesOf f → acc i ≡ true) → ((i : ℕ) → i < copiesOf f → bcc i ≡ true)
+    → closeAnswer t ≡ closeAnswer u
+any-order {f} {t = t} {u = u} p q a b = go (decLt (copiesOf f) 2)
   where
-    p : Ruled f (openLeaves (copiesOf f) lent) cs
-    p = order-rule f lent cs o e
-
-    q : Ruled f (openLeaves (copiesOf f) lent′) ds
-    q = order-rule f lent′ ds o′ e′
-
-    go : Dec (copiesOf f < 2) → closeFractions (after f (openLeaves (copiesOf f) lent) cs) ≡ closeFractions (after f (openLeaves (copiesOf f) lent′) ds)
+    go : Dec (copiesOf f < 2) → closeAnswer t ≡ closeAnswer u
     go (yes z) = p .gives a 0 (inl z) ∙ sym (q .gives b 0 (inl z))
     go (no z) = let m = p .largest (omega arith) in p .gives a (m .0) (inr (m .1)) ∙ sym (q .gives b (m .0) (inr (m .1)))

@@ -7,12 +7,13 @@ use native.Mathlib.Omega.{arith}
 use native.Mathlib.Numerals.{add-one}
 use lib.ListN.{length, set}
 use Rattle.union_find.specs.Parents.{soundParents}
-use Rattle.clusters.specs.Table.{parents, degree, contacts, words, contact, pass, rowTable}
+use Rattle.cluster_table.specs.Table.{parents, degree, contacts, words, contact}
+use Rattle.clusters.specs.Answers.{pass, rowTable}
 use Rattle.union_find.proofs.Forest.{decide, Sound, sound-parents}
 use Rattle.union_find.proofs.Joins.{joins}
-use Rattle.clusters.proofs.Parts.{parents-length}
-use Rattle.clusters.proofs.Checks.{Ready}
-use Rattle.clusters.proofs.Contacts.{wrote}
+use Rattle.cluster_table.proofs.Parts.{parents-length}
+use Rattle.cluster_table.proofs.Checks.{Ready}
+use Rattle.cluster_table.proofs.Contacts.{wrote}
 
 -- before copy j is tested: the rest of the pass over t gives what the whole pass gives over t₀
 pub record Run (touch : ℕ → ℕ → Bool) (n i : ℕ) (t₀ : List ℕ) (t : List ℕ) (j : ℕ) : Type 0 where

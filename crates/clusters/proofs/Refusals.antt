@@ -1,5 +1,5 @@
 -- What Open and Row answer and leave, test by test. Assumes nothing.
-use mathlib.Core.Path.{_≡_, refl, sym, _∙_}
+use mathlib.Core.Path.{_≡_, refl, sym, ap, _∙_}
 use mathlib.Core.Bool.{cond, not}
 use mathlib.Core.List.{List}
 use Prim.Native.Nat.{ℕ, _≤_, _<_}
@@ -8,32 +8,40 @@ use native.Mathlib.Decide.{decLe}
 use lib.ListN.{length}
 use lib.Dec.{eqb, ltb, leb}
 use borrow.Author.Tests.{lt-ltb, le-ltb}
-use Rattle.cell.specs.Refusals.{firstRefusal}
+use Rattle.cell.specs.declared.Answer.the-variants.{Accepted, Refused}
+use Rattle.cell.specs.Refusals.{firstRefusal, answerOf}
 use Rattle.cell.proofs.Tables.{at-refusal, at-none}
-use Rattle.clusters.specs.Table.{mark, words, opened, soundTable}
+use Rattle.cluster_table.specs.Table.{mark, words, opened, soundTable}
 use Rattle.clusters.specs.Answers.{openRefusals, openRefusal, openLeaves, tableRefusals}
 
 -- ---- Open
 module _ (n : ℕ) (t : List ℕ) where
-  refused : (r : ℕ) → (r ≡ 0 → ⊥) → openRefusal n t ≡ r → (r ≡ openRefusal n t) × (t ≡ openLeaves n t)
+  refused : (r : ℕ) → (r ≡ 0 → ⊥) → openRefusal n t ≡ r → (Refused r ≡ answerOf (openRefusal n t)) × (t ≡ openLeaves n t)
   unfolding openLeaves
-  refused r m e = (sym e, sym (at-refusal (openRefusal n t) (opened n t) t (λ z. m (sym e ∙ z))))
+  refused r m e =
+      (sym (ap answerOf e ∙ at-refusal r Accepted (Refused r) m), sym (at-refusal (openRefusal n t) (opened n t) t (λ z. m (sym e ∙ z))))
 
-  pub open-many : 4096 < n → (5 ≡ openRefusal n t) × (t ≡ openLeaves n t)
+  five : 4096 < n → openRefusal n t ≡ 5
   unfolding openRefusal openRefusals firstRefusal
-  open-many l = refused 5 (λ z. omega arith) (rw (lt-ltb 4096 n l))
+  five l = rw (lt-ltb 4096 n l)
 
-  pub open-short : n ≤ 4096 → length t < words n → (7 ≡ openRefusal n t) × (t ≡ openLeaves n t)
+  seven : n ≤ 4096 → length t < words n → openRefusal n t ≡ 7
   unfolding openRefusal openRefusals firstRefusal
-  open-short l h = refused 7 (λ z. omega arith) (rw (le-ltb 4096 n l, lt-ltb (length t) (words n) h))
+  seven l h = rw (le-ltb 4096 n l, lt-ltb (length t) (words n) h)
+
+  pub open-many : 4096 < n → (Refused 5 ≡ answerOf (openRefusal n t)) × (t ≡ openLeaves n t)
+  open-many l = refused 5 (λ z. omega arith) (five l)
+
+  pub open-short : n ≤ 4096 → length t < words n → (Refused 7 ≡ answerOf (openRefusal n t)) × (t ≡ openLeaves n t)
+  open-short l h = refused 7 (λ z. omega arith) (seven l h)
 
   pub open-none : n ≤ 4096 → words n ≤ length t → openRefusal n t ≡ 0
   unfolding openRefusal openRefusals firstRefusal
   open-none l h = rw (le-ltb 4096 n l, le-ltb (length t) (words n) h)
 
-  pub open-taken : n ≤ 4096 → words n ≤ length t → (x : List ℕ) → x ≡ opened n t → (0 ≡ openRefusal n t) × (x ≡ openLeaves n t)
+  pub open-taken : n ≤ 4096 → words n ≤ length t → (x : List ℕ) → x ≡ opened n t → (Accepted ≡ answerOf (openRefusal n t)) × (x ≡ openLeaves n t)
   unfolding openLeaves
-  open-taken l h x e = (sym (open-none l h), e ∙ sym (at-none (openRefusal n t) (opened n t) t (open-none l h)))
+  open-taken l h x e = (sym (ap answerOf (open-none l h)), e ∙ sym (at-none (openRefusal n t) (opened n t) t (open-none l h)))
 
 -- an accepted Open had room
 pub open-room : (n : ℕ) (t : List ℕ) → openRefusal n t ≡ 0 → (n ≤ 4096) × (words n ≤ length t)
@@ -41,8 +49,8 @@ open-room n t e = go (decLe n 4096) (decLe (words n) (length t))
   where
     go : Dec (n ≤ 4096) → Dec (words n ≤ length t) → (n ≤ 4096) × (words n ≤ length t)
     go (yes l) (yes h) = (l, h)
-    go (yes l) (no h) = absurd (omega (arith, open-short n t l (omega arith) .0 ∙ e))
-    go (no l) d = absurd (omega (arith, open-many n t (omega arith) .0 ∙ e))
+    go (yes l) (no h) = absurd (omega (arith, seven n t l (omega arith), e))
+    go (no l) d = absurd (omega (arith, five n t (omega arith), e))
 
 -- Open asks only for the table's length
 pub open-same : (n : ℕ) (t u : List ℕ) → length t ≡ length u → openRefusal n t ≡ openRefusal n u

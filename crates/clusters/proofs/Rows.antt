@@ -10,12 +10,13 @@ use lib.ListN.{set, length-set}
 use lib.Seq.{getD-set-same, getD-set-other}
 use lib.Dec.{eqb, ltb}
 use borrow.Author.Tests.{eq-eqb, ne-eqb, ltb-true, lt-ltb, le-ltb}
-use Rattle.clusters.specs.Table.{parents, contact, pass, rowTable}
+use Rattle.cluster_table.specs.Table.{parents, contact}
+use Rattle.clusters.specs.Answers.{pass, rowTable}
 use Rattle.clusters.specs.Graph.{graph, contactGraph}
 use Rattle.union_find.proofs.Forest.{decide}
 use Rattle.union_find.proofs.Ranges.{and-left, and-right, and-false}
+use Rattle.cluster_table.proofs.Parts.{parents-set}
 use Rattle.clusters.proofs.Chains.{Adds}
-use Rattle.clusters.proofs.Parts.{parents-set}
 use Rattle.clusters.proofs.Holds.{Holds, contact-holds}
 
 -- the rows accepted, with i

@@ -1,7 +1,7 @@
 -- Every row in rising order, for input that nothing refuses: each row is accepted, so that the table holds the graph of the rows
 -- so far, and Close answers at the end. Assumes nothing.
 use mathlib.Core.Path.{_≡_, refl, sym, ap, _∙_, subst}
-use mathlib.Core.Bool.{Bool, true, cond, not}
+use mathlib.Core.Bool.{true}
 use mathlib.Core.List.{List, [], _∷_}
 use Prim.Native.Nat.{ℕ, zero, suc, _+_, _-_, _≤_, _<_}
 use native.Mathlib.Nat.{le-refl, zero-add, sub-zero}
@@ -17,15 +17,15 @@ use Rattle.selection.specs.Sound.{copiesIn, soundLists}
 use Rattle.selection.specs.Input.{inputRefusals}
 use Rattle.selection.proofs.InputRefusals.{input-numbered, input-accepted}
 use Rattle.selection.proofs.SoundLists.{sound-lists}
-use Rattle.union_find.proofs.Ranges.{all-true}
-use Rattle.clusters.specs.Table.{words, opened, rowTable, soundTable}
-use Rattle.clusters.specs.Answers.{openRefusal, openLeaves, closeRefusal, closeFractions, tableFractions}
-use Rattle.clusters.specs.Order.{Input, copiesOf, touchOf, row, answer, leaves, after}
+use Rattle.cluster_table.specs.Table.{words, opened, soundTable}
+use Rattle.cluster_table.specs.Fractions.{tableFractions}
+use Rattle.clusters.specs.Answers.{rowTable, openRefusal, openLeaves, rowRefusal, closed, closeAnswer}
+use Rattle.clusters.specs.Order.{Input, copiesOf, touchOf, row, leaves, after}
 use Rattle.clusters.specs.Scan.{given, rising, scanned}
 use Rattle.cell.proofs.Tables.{at-none}
 use Rattle.clusters.proofs.Refusals.{open-none}
 use Rattle.clusters.proofs.Lengths.{row-length}
-use Rattle.clusters.proofs.Held.{sound-table, close-answer}
+use Rattle.clusters.proofs.Held.{sound-table, close-full}
 use Rattle.clusters.proofs.Calls.{State, state-first, next-row, no-row}
 use Rattle.clusters.proofs.OrderRule.{inputs, row-leaves, rows-rule}
 
@@ -48,15 +48,15 @@ module _ (f : Input) (fine : firstRefusal (inputRefusals (f .cell) (f .solutes) 
 
   -- ---- one row
   module _ {t : List ℕ} {i : ℕ} (l : i < copiesOf f) (s : State (touchOf f) (copiesOf f) (λ k. ltb k i) t) where
-    row-accepted : answer f t (row i) ≡ 0
+    row-accepted : rowRefusal (f .cell) (f .solutes) (f .starts) (f .picks) t i ≡ 0
     unfolding inputs firstRefusal
     row-accepted =
-        rows-rule f (λ k. ltb k i) t few s i
+        rows-rule f (λ k. ltb k i) t s i
         ∙ append-skip (inputs f) (refuse 10 (leb (copiesOf f) i) ∷ refuse 11 (ltb i i) ∷ []) (input-numbered (f .cell) (f .solutes) [] (f .starts) (f .picks)) fine
         ∙ rw (lt-leb (copiesOf f) i l, le-ltb i i (le-refl i))
 
     row-writes : leaves f t (row i) ≡ rowTable (touchOf f) (copiesOf f) i t
-    row-writes = row-leaves f t i ∙ at-none (answer f t (row i)) (rowTable (touchOf f) (copiesOf f) i t) t row-accepted
+    row-writes = row-leaves f t i ∙ at-none _ (rowTable (touchOf f) (copiesOf f) i t) t row-accepted
 
   pub scan-next : {t₀ t : List ℕ} {i : ℕ} → i < copiesOf f → Scan f t₀ t i → Scan f t₀ (rowTable (touchOf f) (copiesOf f) i t) (suc i)
   unfolding rising after
@@ -111,11 +111,5 @@ module _ (c : Cell) (xs : List Float) (starts picks lent : List ℕ) (fine : fir
   scanned-sound = sound-table state-of
 
   -- Close answers the fractions
-  closes : closeRefusal (scanned c xs starts picks lent) ≡ 0
-  closes =
-      close-answer state-of (few (given c xs starts picks) fine)
-      ∙ ap (λ (b : Bool). cond (not b) 12 0) (all-true (copiesIn starts) (λ j. ltb j (copiesIn starts)) (λ j l. lt-ltb j (copiesIn starts) l))
-
-  pub scanned-closes : tableFractions (scanned c xs starts picks lent) ≡ closeFractions (scanned c xs starts picks lent)
-  unfolding closeFractions
-  scanned-closes = sym (at-none (closeRefusal (scanned c xs starts picks lent)) (tableFractions (scanned c xs starts picks lent)) [] closes)
+  pub scanned-closes : closeAnswer (scanned c xs starts picks lent) ≡ closed (tableFractions (scanned c xs starts picks lent))
+  scanned-closes = close-full state-of (few (given c xs starts picks) fine) (λ j l. lt-ltb j (copiesIn starts) l)

@@ -1,11 +1,11 @@
 -- How many contacts there can be: a copy has fewer than n, and all have at most n (n - 1) / 2. Assumes nothing.
 use mathlib.Core.Path.{_≡_, refl, ap}
 use mathlib.Core.Bool.{Bool, true, false, _||_}
-use Prim.Native.Nat.{ℕ, zero, suc, _+_, _-_, _*_, _^_, _≤_, _<_, zero-le}
-use native.Mathlib.Nat.{le-refl, le-div-iff-mul-le, suc-mul, le-trans, sub-le, mul-le-mul, zero-lt-suc}
+use Prim.Native.Nat.{ℕ, zero, suc, _+_, _-_, _*_, _≤_, _<_, zero-le}
+use native.Mathlib.Nat.{le-refl, le-div-iff-mul-le, suc-mul, zero-lt-suc}
 use native.Mathlib.Omega.{arith}
 use Rattle.union_find.specs.Range.{bit, count, total}
-use Rattle.clusters.specs.Table.{pairs}
+use Rattle.cluster_table.specs.Table.{pairs}
 use Rattle.clusters.specs.Graph.{contactsOf, degreeOf, either}
 use Rattle.union_find.proofs.Ranges.{count-lt}
 
@@ -75,10 +75,3 @@ degree-below n g i h l = count-lt n (either g i) i l (go (g i i) refl)
     go : (b : Bool) → g i i ≡ b → (g i i || g i i) ≡ false
     go true e = absurd (omega (arith, h i i e .0))
     go false e = rw e
-
--- 4,096 copies have at most 2 ^ 24 pairs, which f32 holds exactly
-pub pairs-few : (n : ℕ) → n ≤ 4096 → n * (n - 1) ≤ 2 ^ 24
-pairs-few n l = mul-le-mul l (le-trans (sub-le n 1) l)
-
-pub half-few : (n : ℕ) → n ≤ 4096 → pairs n ≤ 2 ^ 24
-half-few n l = omega (arith, pairs-few n l)

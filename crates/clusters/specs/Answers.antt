@@ -1,12 +1,11 @@
 -- Document 01, 'Answers by operation': Open, Row and Close, by what they answer and the table that they leave.
 -- Definitions only. Assumes nothing.
-use mathlib.Core.Bool.{cond, not}
+use mathlib.Core.Bool.{Bool, cond, not}
 use mathlib.Core.List.{List, [], _∷_, _++_}
-use Prim.Native.Nat.{ℕ, _-_}
-use lib.ListN.{length}
+use Prim.Native.Nat.{ℕ, zero, suc, _+_, _-_}
+use lib.ListN.{length, set}
 use lib.Dec.{eqb, leb, ltb}
-use lib.IntN.{pos}
-use lib.Ieee.{Float, binary32, div, ofInt, ofBits}
+use lib.Ieee.{Float}
 use Rattle.cell.specs.declared.Cell.{Cell}
 use Rattle.cell.specs.Refusals.{Refusal, refuse, firstRefusal}
 use Rattle.cell.specs.Limits.{maxCopies}
@@ -14,13 +13,14 @@ use Rattle.cell.specs.Tables.{unlessRefused}
 use Rattle.selection.specs.Sound.{copiesIn}
 use Rattle.selection.specs.Input.{inputRefusals}
 use Rattle.touch.specs.Touch.{copiesTouch}
-use Rattle.union_find.specs.Range.{allBelow, count}
-use Rattle.union_find.specs.Parents.{largestSet}
+use Rattle.union_find.specs.Range.{allBelow}
+use Rattle.cluster_table.specs.declared.ClusterFractions.{ClusterFractions}
+use Rattle.cluster_table.specs.Table.{copies, mark, words, opened, contact, soundTable}
+use Rattle.cluster_table.specs.Fractions.{tableFractions}
 use Rattle.clusters.specs.declared.Closing.{Closing}
 use Rattle.clusters.specs.declared.Closing.the-variants.{Fractions, Refused}
-use Rattle.clusters.specs.Table.{copies, contacts, parents, degree, mark, words, pairs, opened, rowTable, soundTable}
 
--- ---- Close's cases (Open and Row answer by `cell`'s `numberOf`)
+-- ---- Close's cases (Open and Row answer by `cell`'s `answerOf`)
 -- a refusal's number, 0 for the fractions
 abbrev pub closeNumber : Closing → ℕ
 closeNumber (Refused n) = n
@@ -44,6 +44,17 @@ unfolding openRefusal opened
 openLeaves n t = unlessRefused (openRefusal n t) (opened n t) t
 
 -- ---- Row
+-- k copies from j on are tested against i, in order
+unfoldable pub pass : (ℕ → ℕ → Bool) → ℕ → ℕ → ℕ → ℕ → List ℕ → List ℕ
+unfolding contact
+pass touch n i zero j t = t
+pass touch n i (suc k) j t = pass touch n i k (suc j) (cond (touch i j) (contact n t i j) t)
+
+-- row i: j = i + 1 .. n - 1 are tested, and mark i becomes 1
+unfoldable pub rowTable : (ℕ → ℕ → Bool) → ℕ → ℕ → List ℕ → List ℕ
+unfolding pass
+rowTable touch n i t = set (pass touch n i (n - suc i) (suc i) t) (2 + n + n + i) 1
+
 -- 7, 9, 10 and 11: what Row i asks of a table of n copies
 unfoldable pub tableRefusals : ℕ → List ℕ → ℕ → List Refusal
 unfolding soundTable
@@ -73,23 +84,11 @@ unfoldable pub closeRefusal : List ℕ → ℕ
 unfolding closeRefusals firstRefusal
 closeRefusal t = firstRefusal (closeRefusals t)
 
--- one f32 division of two whole numbers
-unfoldable pub ratio : ℕ → ℕ → Float
-ratio a b = div binary32 (ofInt binary32 (pos a)) (ofInt binary32 (pos b))
+-- the answer that gives three fractions
+abbrev pub closed : ClusterFractions → Closing
+closed f = Fractions (f .largest) (f .contacted) (f .pair)
 
--- of n copies, m in the largest cluster, c with a contact, and e contacts; zeros below two copies
-unfoldable pub threeFractions : ℕ → ℕ → ℕ → ℕ → List Float
-unfolding ratio
-threeFractions n m c e =
-    cond (ltb n 2) (ofBits binary32 0 ∷ ofBits binary32 0 ∷ ofBits binary32 0 ∷ [])
-    (ratio (m - 1) (n - 1) ∷ ratio c n ∷ ratio e (pairs n) ∷ [])
-
--- from the largest set with one root, the degrees above 0 and the contacts
-unfoldable pub tableFractions : List ℕ → List Float
-unfolding threeFractions largestSet
-tableFractions t =
-    threeFractions (copies t) (largestSet (parents (copies t) t)) (count (copies t) (λ i. ltb 0 (degree (copies t) t i))) (contacts t)
-
-unfoldable pub closeFractions : List ℕ → List Float
+-- what Close answers
+unfoldable pub closeAnswer : List ℕ → Closing
 unfolding closeRefusal tableFractions
-closeFractions t = unlessRefused (closeRefusal t) (tableFractions t) []
+closeAnswer t = unlessRefused (closeRefusal t) (closed (tableFractions t)) (Refused (closeRefusal t))

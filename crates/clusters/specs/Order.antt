@@ -8,14 +8,19 @@ use Prim.Native.Nat.{ℕ, _<_}
 use lib.Dec.{eqb, ltb, leb}
 use lib.Ieee.{Float}
 use Rattle.cell.specs.declared.Cell.{Cell}
-use Rattle.cell.specs.Refusals.{refuse, firstRefusal}
+use Rattle.cell.specs.declared.Answer.{Answer}
+use Rattle.cell.specs.declared.Answer.the-variants.{Accepted, Refused}
+use Rattle.cell.specs.Refusals.{refuse, firstRefusal, answerOf}
 use Rattle.selection.specs.Sound.{copiesIn}
 use Rattle.selection.specs.Input.{inputRefusals}
 use Rattle.touch.specs.Touch.{copiesTouch}
-use Rattle.union_find.specs.Range.{allBelow, count}
+use Rattle.union_find.specs.Range.{count}
 use Rattle.union_find.specs.Parents.{rootOf}
-use Rattle.clusters.specs.Table.{contacts, parents, degree}
-use Rattle.clusters.specs.Answers.{openRefusal, openLeaves, rowRefusal, rowLeaves, closeRefusal, closeFractions, threeFractions}
+use Rattle.cluster_table.specs.Table.{contacts, parents, degree}
+use Rattle.cluster_table.specs.declared.ClusterFractions.{ClusterFractions}
+use Rattle.cluster_table.specs.Fractions.{threeFractions}
+use Rattle.clusters.specs.declared.Closing.the-variants as closing
+use Rattle.clusters.specs.Answers.{openRefusal, openLeaves, rowRefusal, rowLeaves, closed, closeAnswer}
 use Rattle.clusters.specs.Graph.{Chain, degreeOf, contactsOf, Largest, graph, contactGraph}
 
 -- what stays fixed over the list: cell, atoms and pick lists
@@ -38,12 +43,13 @@ pub data Call : Type 0 where
   close : Call
   reopen : ℕ → Call
 
--- what a call answers on a table: a refusal's number, or 0
-unfoldable pub answer : Input → List ℕ → Call → ℕ
-unfolding rowRefusal closeRefusal openRefusal
-answer f t (row i) = rowRefusal (f .cell) (f .solutes) (f .starts) (f .picks) t i
-answer f t close = closeRefusal t
-answer f t (reopen k) = openRefusal k t
+-- what Row i answers on a table
+abbrev pub rowAnswer : Input → List ℕ → ℕ → Answer
+rowAnswer f t i = answerOf (rowRefusal (f .cell) (f .solutes) (f .starts) (f .picks) t i)
+
+-- what Open for k copies answers on a table
+abbrev pub openAnswer : ℕ → List ℕ → Answer
+openAnswer k t = answerOf (openRefusal k t)
 
 -- the table that a call leaves
 unfoldable pub leaves : Input → List ℕ → Call → List ℕ
@@ -58,14 +64,19 @@ unfolding leaves
 after f t [] = t
 after f t (c ∷ cs) = after f (leaves f t c) cs
 
+-- the answer is acceptance
+abbrev pub isAccepted : Answer → Bool
+isAccepted Accepted = true
+isAccepted (Refused n) = false
+
 -- the call is row i, and it is accepted
 unfoldable pub accepts : Input → List ℕ → Call → ℕ → Bool
-unfolding answer
-accepts f t (row k) i = eqb k i && eqb (answer f t (row k)) 0
+unfolding rowRefusal
+accepts f t (row k) i = eqb k i && isAccepted (rowAnswer f t k)
 accepts f t close i = false
 accepts f t (reopen k) i = false
 
--- row i is accepted in the run of a list from table t: Row answered acceptance
+-- row i is accepted in the run of a list from table t
 unfoldable pub accepted : Input → List ℕ → List Call → ℕ → Bool
 unfolding accepts leaves
 accepted f t [] i = false
@@ -77,40 +88,39 @@ unfolding openRefusal leaves
 neverReopened f t [] = true
 neverReopened f t (row i ∷ cs) = neverReopened f (leaves f t (row i)) cs
 neverReopened f t (close ∷ cs) = neverReopened f t cs
-neverReopened f t (reopen k ∷ cs) = not (eqb (openRefusal k t) 0) && neverReopened f (leaves f t (reopen k)) cs
+neverReopened f t (reopen k ∷ cs) = not (isAccepted (openAnswer k t)) && neverReopened f (leaves f t (reopen k)) cs
 
--- what a call answers by the rule, when the rows `acc` are accepted before it: Row the first of 1, 2, 3, 4, 15 and 8 that holds,
--- else 10, else 11 if that row was accepted before; Close 12 until every row is accepted
-unfoldable pub ruled : Input → List ℕ → (ℕ → Bool) → Call → ℕ
-unfolding inputRefusals openRefusal firstRefusal
-ruled f t acc (row i) = firstRefusal (inputRefusals (f .cell) (f .solutes) [] (f .starts) (f .picks) ++ (refuse 10 (leb (copiesOf f) i) ∷ refuse 11 (acc i) ∷ []))
-ruled f t acc close = firstRefusal (refuse 12 (not (allBelow (copiesOf f) acc)) ∷ [])
-ruled f t acc (reopen k) = openRefusal k t
+-- the fractions of a graph g on n copies whose largest cluster has m copies
+abbrev pub graphFractions : ℕ → (ℕ → ℕ → Bool) → ℕ → ClusterFractions
+graphFractions n g m = threeFractions n m (count n (λ i. ltb 0 (degreeOf n g i))) (contactsOf n g)
 
--- the rule, for a list of calls cs from a table t₀
-pub record Ruled (f : Input) (t₀ : List ℕ) (cs : List Call) : Type 0 where
-  -- after the list the joined sets, degrees and contacts are those of the graph with only the touches whose row is accepted by then
+-- the rule at one point of the list: t₀ is the opened table, t the table at that point, and the rows `acc` are accepted by then
+pub record Ruled (f : Input) (t₀ t : List ℕ) (acc : ℕ → Bool) : Type 0 where
+  -- the joined sets, degrees and contacts are those of the graph with only the touches whose row is accepted
   pub sets : (i j : ℕ) → i < copiesOf f → j < copiesOf f
-      → (rootOf (parents (copiesOf f) (after f t₀ cs)) i ≡ rootOf (parents (copiesOf f) (after f t₀ cs)) j)
-      ↔ Chain (graph (touchOf f) (copiesOf f) (accepted f t₀ cs)) i j
-  pub degrees : (i : ℕ) → i < copiesOf f → degree (copiesOf f) (after f t₀ cs) i ≡ degreeOf (copiesOf f) (graph (touchOf f) (copiesOf f) (accepted f t₀ cs)) i
-  pub contacts-are : contacts (after f t₀ cs) ≡ contactsOf (copiesOf f) (graph (touchOf f) (copiesOf f) (accepted f t₀ cs))
-  -- every call of the list answers by the rule
-  pub answers : (before : List Call) (c : Call) (rest : List Call) → cs ≡ before ++ (c ∷ rest)
-      → answer f (after f t₀ before) c ≡ ruled f t₀ (accepted f t₀ before) c
+      → (rootOf (parents (copiesOf f) t) i ≡ rootOf (parents (copiesOf f) t) j) ↔ Chain (graph (touchOf f) (copiesOf f) acc) i j
+  pub degrees : (i : ℕ) → i < copiesOf f → degree (copiesOf f) t i ≡ degreeOf (copiesOf f) (graph (touchOf f) (copiesOf f) acc) i
+  pub contacts-are : contacts t ≡ contactsOf (copiesOf f) (graph (touchOf f) (copiesOf f) acc)
+  -- Row is refused exactly by the first of 1, 2, 3, 4, 15 and 8 that holds, else 10, else 11 if the list accepted that row before
+  pub rows : (i : ℕ) → rowAnswer f t i
+      ≡ answerOf (firstRefusal (inputRefusals (f .cell) (f .solutes) [] (f .starts) (f .picks) ++ (refuse 10 (leb (copiesOf f) i) ∷ refuse 11 (acc i) ∷ [])))
+  -- Open answers as on the opened table
+  pub opens : (k : ℕ) → openAnswer k t ≡ openAnswer k t₀
+  -- Close is refused 12 while some row is not accepted
+  pub waits : (i : ℕ) → i < copiesOf f → acc i ≡ false → closeAnswer t ≡ closing.Refused 12
   -- once every row is accepted, Close gives the fractions of the contact graph, whatever the order; below two copies they are zeros
-  pub gives : ((i : ℕ) → i < copiesOf f → accepted f t₀ cs i ≡ true)
+  pub gives : ((i : ℕ) → i < copiesOf f → acc i ≡ true)
       → (m : ℕ) → (copiesOf f < 2) ⊎ Largest (copiesOf f) (contactGraph (touchOf f) (copiesOf f)) m
-      → closeFractions (after f t₀ cs)
-      ≡ threeFractions (copiesOf f) m (count (copiesOf f) (λ i. ltb 0 (degreeOf (copiesOf f) (contactGraph (touchOf f) (copiesOf f)) i)))
-      (contactsOf (copiesOf f) (contactGraph (touchOf f) (copiesOf f)))
+      → closeAnswer t ≡ closed (graphFractions (copiesOf f) (contactGraph (touchOf f) (copiesOf f)) m)
   -- a largest cluster there is
   pub largest : 0 < copiesOf f → (m : ℕ) × Largest (copiesOf f) (contactGraph (touchOf f) (copiesOf f)) m
 
--- the order rule: a table freshly opened for the number of copies in the pick lists, and any list of calls that does not open it again
+-- the order rule: a table freshly opened for the number of copies in the pick lists, and any list of calls that does not open it again;
+-- the rule holds at each point of the list, `before` being the calls made by then
 abbrev pub OrderRule : Type 0
 OrderRule =
     (f : Input) (lent : List ℕ) (cs : List Call)
-    → openRefusal (copiesOf f) lent ≡ 0
+    → openAnswer (copiesOf f) lent ≡ Accepted
     → neverReopened f (openLeaves (copiesOf f) lent) cs ≡ true
-    → Ruled f (openLeaves (copiesOf f) lent) cs
+    → (before rest : List Call) → cs ≡ before ++ rest
+    → Ruled f (openLeaves (copiesOf f) lent) (after f (openLeaves (copiesOf f) lent) before) (accepted f (openLeaves (copiesOf f) lent) before)

@@ -1,6 +1,6 @@
 -- `clusters::close` meets its contract: each return knows the tests before it (Closes); `e1` is the place past the first
 -- test, `e2` past the second, and so on. Assumes nothing.
-use mathlib.Core.Path.{refl, sym, _∙_}
+use mathlib.Core.Path.{sym, _∙_}
 use native.Mathlib.Omega.{arith}
 use borrow.Author.Tests.{not-false}
 use Rattle.clusters.proofs.Closes.{no-words, short, many-copies, unsound, waits, gives}
@@ -34,15 +34,15 @@ returns-3 c =
     let e1 = e2 .before .before .before in
     many-copies _ _ (e2 .before .wide .ensures) (e1 .if1 .left) (e2 .if2 .left) (c .if3 .taken)
 
-table-sound-requires : tie.Need-table-sound-requires
-table-sound-requires c κs = search needs
+is-sound-requires : tie.Need-is-sound-requires
+is-sound-requires c κs = search needs
 
 returns-4 : tie.Need-returns-4
 returns-4 c =
     let e3 = c .before .before in
     let e2 = e3 .before in
     let e1 = e2 .before .before .before in
-    unsound _ _ (e2 .before .wide .ensures) (e1 .if1 .left) (e2 .if2 .left) (e3 .if3 .left) _ (c .before .table-sound .ensures) (c .if4 .taken)
+    unsound _ _ (e2 .before .wide .ensures) (e1 .if1 .left) (e2 .if2 .left) (e3 .if3 .left) _ (c .before .is-sound .ensures) (c .if4 .taken)
 
 all-marked-requires : tie.Need-all-marked-requires
 all-marked-requires c κs = search needs
@@ -53,14 +53,14 @@ returns-5 c =
     let e3 = e4 .before .before in
     let e2 = e3 .before in
     let e1 = e2 .before .before .before in
-    waits _ _ (e2 .before .wide .ensures) (e1 .if1 .left) (e2 .if2 .left) (e3 .if3 .left) _ (e4 .before .table-sound .ensures) (e4 .if4 .left)
+    waits _ _ (e2 .before .wide .ensures) (e1 .if1 .left) (e2 .if2 .left) (e3 .if3 .left) _ (e4 .before .is-sound .ensures) (e4 .if4 .left)
     _ (c .before .all-marked .ensures) (c .if5 .taken)
 
 fractions-requires : tie.Need-fractions-requires
 fractions-requires c κs =
     let e4 = c .before .before in
     let e3 = e4 .before .before in
-    ((e3 .if3 .left, e3 .before .if2 .left), sym (e4 .before .table-sound .ensures) ∙ not-false _ (e4 .if4 .left))
+    ((e3 .if3 .left, e3 .before .if2 .left), sym (e4 .before .is-sound .ensures) ∙ not-false _ (e4 .if4 .left))
 
 returns-6 : tie.Need-returns-6
 returns-6 c =
@@ -69,8 +69,8 @@ returns-6 c =
     let e3 = e4 .before .before in
     let e2 = e3 .before in
     let e1 = e2 .before .before .before in
-    gives _ _ (e2 .before .wide .ensures) (e1 .if1 .left) (e2 .if2 .left) (e3 .if3 .left) _ (e4 .before .table-sound .ensures) (e4 .if4 .left)
-    _ (e5 .before .all-marked .ensures) (e5 .if5 .left) 0 _ refl (c .fractions .ensures)
+    gives _ _ (e2 .before .wide .ensures) (e1 .if1 .left) (e2 .if2 .left) (e3 .if3 .left) _ (e4 .before .is-sound .ensures) (e4 .if4 .left)
+    _ (e5 .before .all-marked .ensures) (e5 .if5 .left) _ (c .fractions .ensures)
 
 pub close-spec : {M : Type 1} → statement M
 close-spec =
@@ -83,7 +83,7 @@ close-spec =
     add-if2
     returns-2
     returns-3
-    table-sound-requires
+    is-sound-requires
     returns-4
     all-marked-requires
     returns-5

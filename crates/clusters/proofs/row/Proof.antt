@@ -32,8 +32,8 @@ returns-2 c =
     let e1 = c .before in
     row-short _ _ _ _ _ _ _ (e1 .before .input-refusal .ensures) (e1 .if1 .left) (c .if2 .taken)
 
-table-sound-requires : tie.Need-table-sound-requires
-table-sound-requires c κs =
+is-sound-requires : tie.Need-is-sound-requires
+is-sound-requires c κs =
     let e2 = c .before in
     let e1 = e2 .before in
     (input-lists _ _ _ _ _ (e1 .before .input-refusal .ensures) (e1 .if1 .left) .few, e2 .if2 .left)
@@ -45,7 +45,7 @@ returns-3 : tie.Need-returns-3
 returns-3 c =
     let e2 = c .before .before .before in
     let e1 = e2 .before in
-    row-unsound _ _ _ _ _ _ _ (e1 .before .input-refusal .ensures) (e1 .if1 .left) (e2 .if2 .left) _ (c .before .table-sound .ensures) (c .if3 .taken)
+    row-unsound _ _ _ _ _ _ _ (e1 .before .input-refusal .ensures) (e1 .if1 .left) (e2 .if2 .left) _ (c .before .is-sound .ensures) (c .if3 .taken)
 
 same-length-2 : tie.Need-same-length-2
 same-length-2 c = search needs
@@ -55,7 +55,7 @@ returns-4 c =
     let e3 = c .before in
     let e2 = e3 .before .before .before in
     let e1 = e2 .before in
-    row-beyond _ _ _ _ _ _ _ (e1 .before .input-refusal .ensures) (e1 .if1 .left) (e2 .if2 .left) _ (e3 .before .table-sound .ensures) (e3 .if3 .left)
+    row-beyond _ _ _ _ _ _ _ (e1 .before .input-refusal .ensures) (e1 .if1 .left) (e2 .if2 .left) _ (e3 .before .is-sound .ensures) (e3 .if3 .left)
     (c .if4 .taken)
 
 add-if5 : tie.Need-add-if5
@@ -82,7 +82,7 @@ returns-5 c =
     let e3 = e4 .before in
     let e2 = e3 .before .before .before in
     let e1 = e2 .before in
-    row-marked _ _ _ _ _ _ _ (e1 .before .input-refusal .ensures) (e1 .if1 .left) (e2 .if2 .left) _ (e3 .before .table-sound .ensures) (e3 .if3 .left)
+    row-marked _ _ _ _ _ _ _ (e1 .before .input-refusal .ensures) (e1 .if1 .left) (e2 .if2 .left) _ (e3 .before .is-sound .ensures) (e3 .if3 .left)
     (e4 .if4 .left) (c .if5 .taken)
 
 scan-row-requires : tie.Need-scan-row-requires
@@ -92,7 +92,7 @@ scan-row-requires c κs =
     let e2 = e3 .before .before .before in
     let e1 = e2 .before in (
       sym (e1 .before .input-refusal .ensures) ∙ e1 .if1 .left,
-      (e2 .if2 .left, sym (e3 .before .table-sound .ensures) ∙ not-false _ (e3 .if3 .left), e4 .if4 .left),
+      (e2 .if2 .left, sym (e3 .before .is-sound .ensures) ∙ not-false _ (e3 .if3 .left), e4 .if4 .left),
     )
 
 same-length-4 : tie.Need-same-length-4
@@ -105,7 +105,7 @@ returns-6 c =
     let e3 = e4 .before in
     let e2 = e3 .before .before .before in
     let e1 = e2 .before in
-    row-taken _ _ _ _ _ _ _ (e1 .before .input-refusal .ensures) (e1 .if1 .left) (e2 .if2 .left) _ (e3 .before .table-sound .ensures) (e3 .if3 .left)
+    row-taken _ _ _ _ _ _ _ (e1 .before .input-refusal .ensures) (e1 .if1 .left) (e2 .if2 .left) _ (e3 .before .is-sound .ensures) (e3 .if3 .left)
     (e4 .if4 .left) (e5 .if5 .left) _ (c .before .before .scan-row .ensures)
 
 pub row-spec : {M : Type 1} → statement M
@@ -119,7 +119,7 @@ row-spec =
     mul-if2
     add-if2
     returns-2
-    table-sound-requires
+    is-sound-requires
     same-length
     returns-3
     same-length-2

@@ -4,8 +4,9 @@ use mathlib.Core.Logic.{⊎-elim}
 use Prim.Native.Nat.{_-_}
 use native.Mathlib.Omega.{arith}
 use Rattle.touch.specs.Touch.{copiesTouch}
+use Rattle.boxes.proofs.Flags.{flag-after}
+use Rattle.cluster_table.proofs.Checks.{ready-of}
 use Rattle.clusters.proofs.Accepted.{accepted-sound, accepted-lists, accepted-tested}
-use Rattle.clusters.proofs.Checks.{ready-of}
 use Rattle.clusters.proofs.Passes.{Run, run-first, run-skip, run-touch, run-last, run-asks}
 use borrow.Author.Needs.{needs}
 use Rattle.clusters.proofs.scan_boxed.Statement.{statement}
@@ -36,7 +37,7 @@ marked-touch-requires : tie.Need-marked-touch-requires Inv-loop μ-loop
 marked-touch-requires c κs =
     let st = c .before .before .before .before .before .before .before .before .before .before .before .before .before in
     let h = st .pre .0 in
-    (accepted-sound _ _ _ _ h, ((st .pre .1 .1 .0 .0, accepted-tested _ _ _ _ h), (st .pre .1 .1 .1, ((st .pre .1 .0 .2, c .before .loop-test .taken, st .pre .1 .1 .0 .1), (omega (arith, st .pre .1 .1 .0 .2), c .before .before .before .before .before .mark-apart .ensures _ (c .before .before .loop .inv .ahead) (c .before .loop-test .taken))))))
+    (accepted-sound _ _ _ _ h, ((st .pre .1 .1 .0 .0, accepted-tested _ _ _ _ h), (st .pre .1 .1 .1, ((st .pre .1 .0 .2, c .before .loop-test .taken, st .pre .1 .1 .0 .1), (omega (arith, st .pre .1 .1 .0 .2), rw (c .before .before .before .before .before .mark-apart .ensures) (flag-after _ _ _ _ _ _ (st .pre .1 .1 .0 .2) (c .before .before .loop .inv .ahead) (c .before .loop-test .taken)))))))
 
 add-contact-requires : tie.Need-add-contact-requires Inv-loop μ-loop
 add-contact-requires c κs =

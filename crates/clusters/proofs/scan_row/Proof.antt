@@ -8,8 +8,8 @@ use Rattle.selection.proofs.CopyPicks.{copy-part, copy-some, copy-atoms}
 use Rattle.touch.specs.Touch.{copiesTouch}
 use Rattle.boxes.specs.Boxes.{spanOf}
 use Rattle.boxes.proofs.Between.{apart-copies}
+use Rattle.cluster_table.proofs.Checks.{ready-of}
 use Rattle.clusters.proofs.Accepted.{accepted-sound, accepted-lists, accepted-tested}
-use Rattle.clusters.proofs.Checks.{ready-of}
 use Rattle.clusters.proofs.Passes.{Run, run-first, run-skip, run-touch, run-last, run-asks}
 use borrow.Author.Needs.{needs}
 use borrow.Author.Tests.{not-false}

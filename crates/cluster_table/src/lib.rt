@@ -1,0 +1,183 @@
+// The cluster table (document 01, 'Clusters'), one lent list of words: copies n, contacts, then n parents, n degrees, n marks. Here it is opened
+// and tested, gets its contacts and marks, and gives its fractions. A function asks for what it needs and tests none of it: the calls that do
+// are Open, Row and Close of `clusters`.
+ghost use mathlib.Core.Path.{_≡_};
+ghost use mathlib.Core.Bool.{true};
+ghost use Prim.Native.Nat.{_+_, _^_, _<_, _≤_};
+ghost use lib.Dec.{ltb, eqb};
+ghost use lib.ListN.{length, getD, set};
+ghost use Rattle.union_find.specs.Range.{allBelow, count};
+ghost use Rattle.union_find.specs.Parents.{soundParents};
+ghost use Rattle.cluster_table.specs.Table.{parents, degree, contacts, mark, words, pairs, contact, opened, soundWords, soundTable};
+ghost use Rattle.cluster_table.specs.Fractions.{ratio, tableFractions};
+
+// The three fractions of a table.
+pub struct ClusterFractions {
+    pub largest: f32,
+    pub contacted: f32,
+    pub pair: f32,
+}
+
+fn wide(x: u32) -> usize
+    ensures { λ r. ⌜ r ≡ x ⌝ }
+{
+    x as usize
+}
+
+// How many pairs n copies have.
+fn pair_count(n: usize) -> usize
+    requires { ⌜ n ≤ 4096 ⌝ }
+    ensures { λ r. ⌜ r ≡ pairs n ⌝ }
+{
+    if n == 0 {
+        return 0;
+    }
+    n * (n - 1) / 2
+}
+
+// ---- opening
+
+// Writes the table of n copies with no contact.
+pub fn open_table(table: &mut [u32], n: usize)
+    requires { ⌜ (n ≤ 4096) × (words n ≤ length (now table)) ⌝ }
+    ensures { λ _. ⌜ now (table .exit) ≡ opened n (now (table .entry)) ⌝ }
+{
+    table[0] = n as u32;
+    table[1] = 0;
+    let mut i = 0;
+    while i < n {
+        table[2 + i] = i as u32;
+        i += 1;
+    }
+    let mut k = 0;
+    while k < n + n {
+        table[2 + n + k] = 0;
+        k += 1;
+    }
+}
+
+// ---- whether a table is sound (9)
+
+// Whether the degrees are below n and the marks 0 or 1.
+fn words_sound(table: &[u32], n: usize) -> bool
+    requires { ⌜ (n ≤ 4096) × (words n ≤ length (now table)) ⌝ }
+    ensures { λ r. ⌜ r ≡ allBelow n (soundWords n (now (table .entry))) ⌝ }
+{
+    let a = 2 + n;
+    let b = a + n;
+    let c = b + n;
+    union_find::all_below(&table[a..b], n as u32) & union_find::all_below(&table[b..c], 2)
+}
+
+// Whether a table of n copies is sound: any table whatever is decided.
+pub fn is_sound(table: &[u32], n: usize) -> bool
+    requires { ⌜ (n ≤ 4096) × (words n ≤ length (now table)) ⌝ }
+    ensures { λ r. ⌜ r ≡ soundTable n (now (table .entry)) ⌝ }
+{
+    if wide(table[0]) != n {
+        return false;
+    }
+    if wide(table[1]) > pair_count(n) {
+        return false;
+    }
+    let end = 2 + n;
+    if !union_find::is_sound(&table[2..end]) {
+        return false;
+    }
+    words_sound(table, n)
+}
+
+// ---- contacts and marks
+
+// Adds 1 to a word.
+fn raise(table: &mut [u32], at: usize)
+    requires { ⌜ (at < length (now table)) × (getD (now table) at 0 + 1 < 2 ^ 32) ⌝ }
+    ensures { λ _. ⌜ now (table .exit) ≡ set (now (table .entry)) at (getD (now (table .entry)) at 0 + 1) ⌝ }
+{
+    table[at] = table[at] + 1;
+}
+
+// A touch of i and j: their sets are joined, and both degrees and the contacts raised, also where one root was theirs already.
+pub fn add_contact(table: &mut [u32], n: usize, i: usize, j: usize)
+    requires { ⌜ (n ≤ 4096) × (words n ≤ length (now table)) × (i < j) × (j < n) ⌝ }
+    requires { ⌜ soundParents (parents n (now table)) ≡ true ⌝ }
+    requires { ⌜ (degree n (now table) i < 2 ^ 31) × (degree n (now table) j < 2 ^ 31) × (contacts (now table) < 2 ^ 31) ⌝ }
+    ensures { λ _. ⌜ now (table .exit) ≡ contact n (now (table .entry)) i j ⌝ }
+{
+    let end = 2 + n;
+    union_find::union_roots(&mut table[2..end], i as u32, j as u32);
+    raise(table, end + i);
+    raise(table, end + j);
+    raise(table, 1);
+}
+
+// Mark i becomes 1.
+pub fn set_mark(table: &mut [u32], n: usize, i: usize)
+    requires { ⌜ (n ≤ 4096) × (words n ≤ length (now table)) × (i < n) ⌝ }
+    ensures { λ _. ⌜ now (table .exit) ≡ set (now (table .entry)) (2 + n + n + i) 1 ⌝ }
+{
+    table[2 + n + n + i] = 1;
+}
+
+// Whether every row is accepted.
+pub fn all_marked(table: &[u32], n: usize) -> bool
+    requires { ⌜ (n ≤ 4096) × (words n ≤ length (now table)) ⌝ }
+    ensures { λ r. ⌜ r ≡ allBelow n (λ i. eqb (mark n (now (table .entry)) i) 1) ⌝ }
+{
+    let mut i = 0;
+    while i < n {
+        if table[2 + n + n + i] != 1 {
+            return false;
+        }
+        i += 1;
+    }
+    true
+}
+
+// ---- the fractions
+
+// How many copies have a contact.
+fn contacted(table: &[u32], n: usize) -> u32
+    requires { ⌜ (n ≤ 4096) × (words n ≤ length (now table)) ⌝ }
+    ensures { λ k. ⌜ k ≡ count n (λ i. ltb 0 (degree n (now (table .entry)) i)) ⌝ }
+{
+    let mut k = 0;
+    let mut i = 0;
+    while i < n {
+        if 0 < table[2 + n + i] {
+            k += 1;
+        }
+        i += 1;
+    }
+    k
+}
+
+// One division of two whole numbers that f32 holds exactly.
+fn quotient(a: u32, b: u32) -> f32
+    requires { ⌜ (a ≤ 2 ^ 24) × (b ≤ 2 ^ 24) ⌝ }
+    ensures { λ r. ⌜ r ≡ ratio a b ⌝ }
+{
+    a as f32 / b as f32
+}
+
+// The three fractions of a sound table of n copies.
+pub fn fractions(table: &[u32], n: usize) -> ClusterFractions
+    requires { ⌜ (n ≤ 4096) × (words n ≤ length (now table)) ⌝ }
+    requires { ⌜ soundTable n (now table) ≡ true ⌝ }
+    ensures { λ r. ⌜ r ≡ tableFractions (now (table .entry)) ⌝ }
+{
+    if n < 2 {
+        return ClusterFractions {
+            largest: 0.0,
+            contacted: 0.0,
+            pair: 0.0,
+        };
+    }
+    let end = 2 + n;
+    let largest = union_find::largest_set(&table[2..end]);
+    ClusterFractions {
+        largest: quotient(largest - 1, (n - 1) as u32),
+        contacted: quotient(contacted(table, n), n as u32),
+        pair: quotient(table[1], pair_count(n) as u32),
+    }
+}
