@@ -1,31 +1,34 @@
--- From the builder's answer at the root to the whole tree's: no points, no room, and room. Assumes nothing.
+-- From the builder's answer at the root to the whole tree's: no points, no room, and room; and what that answer tells a caller.
+-- Assumes nothing.
 use mathlib.Core.Path.{_≡_, refl, sym, ap, _∙_}
-use mathlib.Core.List.{List, [], _∷_}
+use mathlib.Core.Bool.{Bool, true, false, cond}
+use mathlib.Core.List.{List, []}
 use Prim.Native.Nat.{ℕ, _+_, _/_, _≤_, _<_, min}
 use native.Mathlib.Omega.{arith}
 use lib.ListN.{length, replicate}
 use lib.Ieee.{Float, binary32, ofBits}
 use borrow.Author.Tests.{lt-ltb, le-ltb}
-use Rattle.cell.specs.Tables.{over}
-use Rattle.octree.specs.declared.bounds.OctreeBounds.{OctreeBounds}
+use lib.Dec.{ltb}
+use Rattle.cell.specs.Tables.{over, unlessRefused}
+use Rattle.octants.specs.declared.bounds.OctreeBounds.{OctreeBounds}
 use Rattle.octree.specs.declared.Built as Built
 use Rattle.octree.specs.declared.Built.{Built}
-use Rattle.octree.specs.Tree.{Subtrees, Numbered, none, whereSome, subtree, treeOf, firstNumbers, pointNumbers, deepest, recordsOf, boxesOf, treeRefusal, builtNumber, builtValues, treeValues, centerOrderLeft, waterOrderLeft, recordsLeft, boxesLeft}
+use Rattle.octree.specs.Tree.{Subtrees, Numbered, none, whereSome, subtree, treeOf, pointNumbers, treeRefusal, builtAnswer, builtNumber, centerOrderLeft, waterOrderLeft, recordsLeft, boxesLeft}
+use Rattle.nodes.specs.Nodes.{firstNumbers, deepest, recordsOf, boxesOf}
 use Rattle.octree.specs.Inner.{Filled}
 use Rattle.cell.proofs.Tables.{placed-zero}
-use Rattle.octree.proofs.Filling.{numbers-length}
+use Rattle.nodes.proofs.Filling.{numbers-length}
 use Rattle.octree.proofs.Children.{no-points, some-points}
 use Rattle.octree.proofs.Counting.{nodes-few}
 
--- the six clauses of `build_tree`, for a tree t, a room, the answer r and what it leaves
+-- the five clauses of `build_tree`, for a tree t, a room, the answer r and what it leaves
 abbrev pub Answered : Subtrees → ℕ → List Float → List Float → Built → List ℕ → List ℕ → List ℕ → List ℕ → List Float → List Float → Type 0
 Answered t room C W r cs ws rec₀ rec box₀ box =
-    (builtNumber r ≡ treeRefusal room t)
-    × ((builtValues r ≡ treeValues room t)
+    (r ≡ builtAnswer room t)
     × ((cs ≡ centerOrderLeft room t C)
     × ((ws ≡ waterOrderLeft room t W)
     × ((rec ≡ recordsLeft room t rec₀)
-    × (box ≡ boxesLeft room t box₀)))))
+    × (box ≡ boxesLeft room t box₀))))
 
 -- an order list's length is the number of its points
 pub numbered : (points : List Float) (order : List ℕ) → Numbered points order → length points / 3 ≡ length order
@@ -67,19 +70,34 @@ module _ (b : OctreeBounds) (C W : List Float) (cs ws : List ℕ) (hc : Numbered
 module _ (t : Subtrees) (room : ℕ) (C W : List Float) (rec₀ : List ℕ) (box₀ : List Float) where
   pub answered-none : (cs ws : List ℕ) → t ≡ none [] [] → cs ≡ [] → ws ≡ [] → Answered t room C W (Built.Nodes 0 0) cs ws rec₀ rec₀ box₀ box₀
   unfolding deepest recordsOf boxesOf over
-  answered-none cs ws e p q = rw (e, p, q, le-ltb room 0 (omega arith)) (refl, (refl, (refl, (refl, (refl, refl)))))
+  answered-none cs ws e p q = rw (e, p, q, le-ltb room 0 (omega arith)) (refl, (refl, (refl, (refl, refl))))
 
   pub answered-full : (cs ws rec : List ℕ) (box : List Float) → room < length (t .nodes) → cs ≡ pointNumbers C → ws ≡ pointNumbers W
       → rec ≡ replicate (length rec₀) 0 → box ≡ replicate (length box₀) (ofBits binary32 0) → Answered t room C W Built.Full cs ws rec₀ rec box₀ box
-  answered-full cs ws rec box h p q u v = rw (lt-ltb room (length (t .nodes)) h) (refl, (refl, (p, (q, (u, v)))))
+  answered-full cs ws rec box h p q u v = rw (lt-ltb room (length (t .nodes)) h) (refl, (p, (q, (u, v))))
 
   pub answered-fits : (r : Built) (cs ws rec : List ℕ) (box : List Float) → length (t .nodes) ≤ room → Filled t 0 r cs ws rec₀ rec box₀ box → Answered t room C W r cs ws rec₀ rec box₀ box
   answered-fits r cs ws rec box h f =
       let n : 0 + length (t .nodes) ≡ length (t .nodes) = omega arith in
       rw (f .answer, le-ltb room (length (t .nodes)) h) (
-        refl,
-        (
-          ap (λ (k : ℕ). k ∷ deepest (t .nodes) ∷ []) n,
-          (f .order-c, (f .order-w, (f .table ∙ placed-zero (recordsOf (t .nodes)) rec₀, f .corners ∙ placed-zero (boxesOf (t .nodes)) box₀))),
-        ),
+        ap (λ (k : ℕ). Built.Nodes k (deepest (t .nodes))) n,
+        (f .order-c, (f .order-w, (f .table ∙ placed-zero (recordsOf (t .nodes)) rec₀, f .corners ∙ placed-zero (boxesOf (t .nodes)) box₀))),
       )
+
+-- ---- what an answer tells: its number is the refusal's, and the nodes that it counts are the tree's
+module _ (t : Subtrees) where
+  abbrev told : Bool → Built
+  told full = unlessRefused (cond full 13 0) (Built.Nodes (length (t .nodes)) (deepest (t .nodes))) Built.Full
+
+  told-number : (full : Bool) → builtNumber (told full) ≡ cond full 13 0
+  told-number true = refl
+  told-number false = refl
+
+  told-counts : (full : Bool) (n d : ℕ) → Built.Nodes n d ≡ told full → (n ≡ length (t .nodes)) × (d ≡ deepest (t .nodes))
+  told-counts true n d e = let z : _≡_ {A = ℕ} 0 1 = cc in absurd (omega arith)
+  told-counts false n d e = (cc, cc)
+
+  pub built-told : (room : ℕ) (b : Built) → b ≡ builtAnswer room t
+      → (builtNumber b ≡ treeRefusal room t) × ((n d : ℕ) → b ≡ Built.Nodes n d → (n ≡ length (t .nodes)) × (d ≡ deepest (t .nodes)))
+  built-told room b e =
+      (ap builtNumber e ∙ told-number (ltb room (length (t .nodes))), λ n d p. told-counts (ltb room (length (t .nodes))) n d (sym p ∙ e))

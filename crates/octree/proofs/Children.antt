@@ -9,9 +9,10 @@ use native.Mathlib.Omega.{arith}
 use lib.ListN.{length}
 use lib.Ieee.{Float}
 use borrow.Author.Tests.{eq-eqb, ne-eqb}
-use Rattle.octree.specs.declared.bounds.OctreeBounds.{OctreeBounds}
-use Rattle.octree.specs.Tree.{Subtrees, Builder, none, join, whereSome, childrenFrom, subtree, splits, rooted}
-use Rattle.octree.specs.Inner.{octantsOf, unsplit}
+use Rattle.octants.specs.declared.bounds.OctreeBounds.{OctreeBounds}
+use Rattle.octree.specs.Tree.{Subtrees, Builder, none, join, whereSome, childrenFrom, subtree, rooted}
+use Rattle.octants.specs.Split.{splits}
+use Rattle.octants.specs.Inner.{octantsOf, unsplit}
 
 -- ---- subtrees side by side
 pub join-none : (g : Subtrees) → join (none [] []) g ≡ g

@@ -9,13 +9,14 @@ use native.Mathlib.Nat.{mul-add, suc-mul, eq-zero-or-pos}
 use native.Mathlib.Omega.{arith}
 use lib.ListN.{length, getD, length-append}
 use lib.Ieee.{Float}
-use Rattle.octree.specs.declared.bounds.OctreeBounds.{OctreeBounds}
-use Rattle.octree.specs.Bounds.{childOf}
-use Rattle.octree.specs.Split.{octantPoints}
-use Rattle.octree.specs.Tree.{Node, Subtrees, Builder, none, whereSome, rooted, splits, childrenFrom, subtree, treeOf, pointNumbers}
-use Rattle.octree.specs.Inner.{listsFrom, byOctant}
-use Rattle.octree.proofs.Filling.{numbers-length}
-use Rattle.octree.proofs.Arranging.{octants-length}
+use Rattle.octants.specs.declared.bounds.OctreeBounds.{OctreeBounds}
+use Rattle.octants.specs.Bounds.{childOf}
+use Rattle.octants.specs.Split.{octantPoints, splits}
+use Rattle.nodes.specs.Nodes.{Node}
+use Rattle.octree.specs.Tree.{Subtrees, Builder, none, whereSome, rooted, childrenFrom, subtree, treeOf, pointNumbers}
+use Rattle.octants.specs.Inner.{listsFrom, byOctant}
+use Rattle.nodes.proofs.Filling.{numbers-length}
+use Rattle.octants.proofs.Arranging.{octants-length}
 use Rattle.octree.proofs.Children.{no-points, some-points}
 
 -- a law of subtrees goes from a builder to what it makes where there are points

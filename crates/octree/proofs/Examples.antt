@@ -7,9 +7,11 @@ use lib.ListN.{take, drop}
 use lib.Ieee.{Float, binary32, ofBits, ofFields, odd, units, round, span, climb, size, sum, add, sub, mul, neg, lt}
 use Rattle.cell.specs.Cell.{pointAt}
 use Rattle.cell.specs.declared.Vec3.{Vec3}
-use Rattle.octree.specs.Bounds.{cellBox, childOf, wideBox, octantAt}
-use Rattle.octree.specs.Split.{select}
-use Rattle.octree.specs.Tree.{Subtrees, whereSome, childrenFrom, subtree, firstNumbers, treeOf, deepest, recordsOf, boxesOf, treeRefusal, treeValues}
+use Rattle.octree.specs.declared.Built.the-variants.{Nodes, Full}
+use Rattle.octants.specs.Bounds.{cellBox, childOf, wideBox, octantAt}
+use Rattle.octants.specs.Split.{select}
+use Rattle.octree.specs.Tree.{Subtrees, whereSome, childrenFrom, subtree, treeOf, builtAnswer}
+use Rattle.nodes.specs.Nodes.{firstNumbers, deepest, recordsOf, boxesOf}
 
 -- 0, 2, 4, 6 and 16
 abbrev f0 : Float
@@ -39,8 +41,8 @@ words d fc nc fw nw kids after rest = d ∷ fc ∷ nc ∷ fw ∷ nw ∷ kids ∷
 
 pub record Listed : Type 0 where
   -- six nodes and depth 3 where there is room for six; 13 where there is not
-  pub values : treeValues 6 frame ≡ 6 ∷ 3 ∷ []
-  pub refused : treeRefusal 5 frame ≡ 13
+  pub answer : builtAnswer 6 frame ≡ Nodes 6 3
+  pub refused : builtAnswer 5 frame ≡ Full
   pub records : recordsOf (frame .nodes)
       ≡ words 0 0 2 0 1 1 6 (words 1 0 2 0 1 2 6 (words 2 0 2 0 0 2 5 (words 3 0 1 0 0 0 4 (words 3 1 1 0 0 0 5 (words 2 2 0 0 1 0 6 [])))))
   -- the boxes of nodes 3 and 4: a coordinate that is the center's goes low
@@ -50,4 +52,4 @@ pub record Listed : Type 0 where
 
 pub listed : Listed
 unfolding treeOf whereSome subtree childrenFrom firstNumbers select octantAt pointAt childOf wideBox deepest recordsOf boxesOf ofBits ofFields odd units round span climb size sum add sub mul neg lt
-listed = record { values = refl; refused = refl; records = refl; leaves = refl; centerOrder = refl; waterOrder = refl }
+listed = record { answer = refl; refused = refl; records = refl; leaves = refl; centerOrder = refl; waterOrder = refl }

@@ -9,16 +9,18 @@ use lib.Ieee.{Float}
 use Rattle.cell.specs.Limits.{maxAtoms}
 use Rattle.cell.specs.Tables.{placed}
 use Rattle.cell.specs.declared.Vec3.{Vec3}
-use Rattle.octree.specs.declared.bounds.OctreeBounds.{OctreeBounds}
+use Rattle.octants.specs.declared.bounds.OctreeBounds.{OctreeBounds}
 use Rattle.octree.specs.declared.Built.{Built}
-use Rattle.octree.specs.Bounds.{childOf}
-use Rattle.octree.specs.Split.{octantPoints}
-use Rattle.octree.specs.Tree.{Subtrees, Builder, none, join, whereSome, maxDepth, childrenFrom, deepest, recordsOf, boxesOf}
-use Rattle.octree.specs.Inner.{listsFrom, byOctant, unsplit, Divided, Filled}
+use Rattle.octants.specs.Bounds.{childOf}
+use Rattle.octants.specs.Split.{octantPoints, maxDepth}
+use Rattle.octree.specs.Tree.{Subtrees, Builder, none, join, whereSome, childrenFrom}
+use Rattle.nodes.specs.Nodes.{deepest, recordsOf, boxesOf}
+use Rattle.octants.specs.Inner.{listsFrom, byOctant, unsplit, Divided}
+use Rattle.octree.specs.Inner.{Filled}
 use Rattle.octree.proofs.Stretches.{Next, stretch, stretchPut, child-order, child-length}
 use Rattle.cell.proofs.Tables.{placed-none}
-use Rattle.octree.proofs.Placing.{placed-next}
-use Rattle.octree.proofs.NodeTables.{records-append, boxes-append, records-length, boxes-length, deepest-append}
+use Rattle.nodes.proofs.Placing.{placed-next}
+use Rattle.nodes.proofs.NodeTables.{records-append, boxes-append, records-length, boxes-length, deepest-append}
 use Rattle.octree.proofs.Children.{below, join-none, join-assoc, no-points, some-points}
 
 -- what stays through the loop: the node's number, depth and box, its first center and water, the room, the lists and tables as they were

@@ -1,5 +1,3 @@
--- The octree of a frame: boxes and octants, the points of an octant, the tree and its tables, and what only inner contracts cite.
-pub mod Bounds
-pub mod Split
+-- The octree of a frame: the tree and what building it answers and leaves, and what only the inner contract cites.
 pub mod Tree
 pub mod Inner

@@ -1,33 +1,23 @@
--- Document 01, 'Octree' and 'Tree': the tree of a box, centers and waters, its node tables, and what Tree answers.
+-- Document 01, 'Octree' and 'Tree': the tree of a box, centers and waters, and what building it answers and leaves.
 -- Definitions only. Assumes nothing.
-use mathlib.Core.Bool.{Bool, cond, _&&_}
+use mathlib.Core.Bool.{cond}
 use mathlib.Core.List.{List, [], _∷_, _++_}
 use mathlib.Core.Path.{_≡_}
-use Prim.Native.Nat.{ℕ, zero, suc, _+_, _-_, _*_, _/_, _≤_, min, max}
+use Prim.Native.Nat.{ℕ, zero, suc, _+_, _-_, _*_, _/_, _≤_, min}
 use lib.Dec.{eqb, ltb}
 use lib.ListN.{length, replicate}
 use lib.Ieee.{Float, binary32, ofBits}
 use Rattle.cell.specs.Limits.{maxAtoms}
 use Rattle.cell.specs.Tables.{over, unlessRefused}
-use Rattle.octree.specs.declared.bounds.OctreeBounds.{OctreeBounds}
+use Rattle.octants.specs.declared.bounds.OctreeBounds.{OctreeBounds}
+use Rattle.octants.specs.Bounds.{childOf}
+use Rattle.octants.specs.Split.{maxDepth, splits, octantPoints}
+use Rattle.nodes.specs.Nodes.{Node, deepest, recordsOf, boxesOf, firstNumbers}
 use Rattle.octree.specs.declared.Built.{Built}
 use Rattle.octree.specs.declared.Built.the-variants.{Nodes, Full}
-use Rattle.octree.specs.Bounds.{childOf, wideBox}
-use Rattle.octree.specs.Split.{octantPoints}
 
--- ---- nodes
-pub record Node : Type 0 where
-  pub depth : ℕ
-  pub firstCenter : ℕ
-  pub centers : ℕ
-  pub firstWater : ℕ
-  pub waters : ℕ
-  pub children : ℕ
-  -- the node after its subtree
-  pub after : ℕ
-  pub box : OctreeBounds
-
--- subtrees side by side: how many, their nodes in preorder, and the order lists as they arrange them
+-- ---- subtrees
+-- side by side: how many, their nodes in preorder, and the order lists as they arrange them
 pub record Subtrees : Type 0 where
   pub roots : ℕ
   pub nodes : List Node
@@ -76,13 +66,6 @@ rooted d at fc fw b cs ws below =
       waterOrder = below .waterOrder;
     }
 
--- no node of depth 14 splits; above it one does if its widest side is over 0.75 and it has more than one center
-abbrev pub maxDepth : ℕ
-maxDepth = 14
-
-abbrev pub splits : OctreeBounds → List ℕ → Bool
-splits b cs = ltb 1 (length cs) && wideBox b
-
 -- over the coordinate lists C and W
 module _ (C W : List Float) where
   -- the children by rising octant, from octant 8 - left on: each gets its octant's points of the node's cs and ws
@@ -102,11 +85,6 @@ module _ (C W : List Float) where
       rooted (maxDepth - suc levels) at fc fw b cs ws
       (cond (splits b cs) (childrenFrom (subtree levels) 8 (at + 1) fc fw b cs ws) (none cs ws))
 
--- 0, 1, 2, .. , n - 1
-unfoldable pub firstNumbers : ℕ → List ℕ
-firstNumbers zero = []
-firstNumbers (suc n) = firstNumbers n ++ (n ∷ [])
-
 -- the numbers of a coordinate list's points, as an order list starts
 abbrev pub pointNumbers : List Float → List ℕ
 pointNumbers points = firstNumbers (length points / 3)
@@ -114,28 +92,6 @@ pointNumbers points = firstNumbers (length points / 3)
 -- the tree of a box with centers C and waters W
 unfoldable pub treeOf : OctreeBounds → List Float → List Float → Subtrees
 treeOf b C W = whereSome (subtree C W maxDepth) 0 0 0 b (pointNumbers C) (pointNumbers W)
-
--- the greatest depth, 0 without nodes
-unfoldable pub deepest : List Node → ℕ
-deepest [] = 0
-deepest (n ∷ ns) = max (n .depth) (deepest ns)
-
--- ---- the node tables
--- eight words: depth, first center, centers, first water, waters, children, node after its subtree, 0
-abbrev pub recordOf : Node → List ℕ
-recordOf n = n .depth ∷ n .firstCenter ∷ n .centers ∷ n .firstWater ∷ n .waters ∷ n .children ∷ n .after ∷ 0 ∷ []
-
--- six floats: low, high
-abbrev pub cornersOf : OctreeBounds → List Float
-cornersOf b = b .low .x ∷ b .low .y ∷ b .low .z ∷ b .high .x ∷ b .high .y ∷ b .high .z ∷ []
-
-unfoldable pub recordsOf : List Node → List ℕ
-recordsOf [] = []
-recordsOf (n ∷ ns) = recordOf n ++ recordsOf ns
-
-unfoldable pub boxesOf : List Node → List Float
-boxesOf [] = []
-boxesOf (n ∷ ns) = cornersOf (n .box) ++ boxesOf ns
 
 -- ---- the answer
 -- an order list with a place for each point, within the limit
@@ -151,18 +107,14 @@ treeRoom records boxes limit = min (min (length records / 8) (length boxes / 6))
 abbrev pub treeRefusal : ℕ → Subtrees → ℕ
 treeRefusal room t = cond (ltb room (length (t .nodes))) 13 0
 
--- the number and the values of an answer
+-- the number of nodes and the greatest depth, or 13
+abbrev pub builtAnswer : ℕ → Subtrees → Built
+builtAnswer room t = unlessRefused (treeRefusal room t) (Nodes (length (t .nodes)) (deepest (t .nodes))) Full
+
+-- the number of each case of an answer
 abbrev pub builtNumber : Built → ℕ
 builtNumber (Nodes n d) = 0
 builtNumber Full = 13
-
-abbrev pub builtValues : Built → List ℕ
-builtValues (Nodes n d) = n ∷ d ∷ []
-builtValues Full = []
-
--- the number of nodes and the greatest depth
-abbrev pub treeValues : ℕ → Subtrees → List ℕ
-treeValues room t = unlessRefused (treeRefusal room t) (length (t .nodes) ∷ deepest (t .nodes) ∷ []) []
 
 -- the order lists afterwards; at 13 they are 0, 1, 2, .. over the points
 abbrev pub centerOrderLeft : ℕ → Subtrees → List Float → List ℕ

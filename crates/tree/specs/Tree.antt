@@ -10,8 +10,9 @@ use Rattle.cell.specs.Refusals.{Refusal, refuse, firstRefusal}
 use Rattle.cell.specs.Tables.{over, unlessRefused}
 use Rattle.selection.specs.Sound.{copiesIn}
 use Rattle.selection.specs.Input.{inputRefusals}
-use Rattle.octree.specs.Bounds.{cellBox}
-use Rattle.octree.specs.Tree.{Subtrees, treeOf, deepest, firstNumbers, recordsOf, boxesOf}
+use Rattle.octants.specs.Bounds.{cellBox}
+use Rattle.nodes.specs.Nodes.{deepest, firstNumbers, recordsOf, boxesOf}
+use Rattle.octree.specs.Tree.{Subtrees, treeOf}
 use Rattle.tree.specs.Points.{treeCenters, treeWaters, finiteWaters}
 use Rattle.tree.specs.declared.TreeAnswer.{TreeAnswer}
 use Rattle.tree.specs.declared.TreeAnswer.the-variants.{Nodes, Refused}
@@ -57,7 +58,11 @@ treeCallRefusal c solutes waters starts picks centerOrder waterOrder room =
 abbrev pub wholeRecords : List ℕ → List Float → ℕ
 wholeRecords records boxes = min (length records / 8) (length boxes / 6)
 
--- ---- the answer's cases: its number, and the number of nodes and the greatest depth
+-- ---- the answer, by the refusal's number: the number of nodes and the greatest depth, or the refusal
+abbrev pub treeAnswer : ℕ → Subtrees → TreeAnswer
+treeAnswer r t = unlessRefused r (Nodes (length (t .nodes)) (deepest (t .nodes))) (Refused r)
+
+-- the number and the values of each case of an answer
 abbrev pub treeNumber : TreeAnswer → ℕ
 treeNumber (Nodes n d) = 0
 treeNumber (Refused r) = r
@@ -65,11 +70,6 @@ treeNumber (Refused r) = r
 abbrev pub treeAnswered : TreeAnswer → List ℕ
 treeAnswered (Nodes n d) = n ∷ d ∷ []
 treeAnswered (Refused r) = []
-
--- the number of nodes and the greatest depth, none with a refusal
-unfoldable pub treeCallValues : ℕ → Subtrees → List ℕ
-unfolding deepest
-treeCallValues r t = unlessRefused r (length (t .nodes) ∷ deepest (t .nodes) ∷ []) []
 
 -- ---- the tables afterwards, by the refusal's number: x at success, y at 13, z at any other
 abbrev pub byOutcome : {A : Type 0} → ℕ → A → A → A → A

@@ -1,19 +1,18 @@
 // Tree (document 01, 'Octree'; the Rust's `MixingOctree::new`): the octree over the centers of the copies and the finite waters.
 // Beside the lent tables a call keeps the wrapped points on its stack: 12,288 and 196,608 floats, and 65,536 words and bytes to split.
 ghost use mathlib.Core.Path.{_≡_};
-ghost use mathlib.Core.Bool.{true, false};
-ghost use mathlib.Core.List.{[], _∷_};
-ghost use Prim.Native.Nat.{_+_, _*_, _/_, _≤_, _<_};
-ghost use lib.ListN.{length, take};
+ghost use mathlib.Core.Bool.{true};
+ghost use Prim.Native.Nat.{_*_, _≤_};
+ghost use lib.ListN.{length};
 ghost use Rattle.cell.specs.Refusals.{firstRefusal};
 ghost use Rattle.cell.specs.Tables.{over};
 ghost use Rattle.selection.specs.Sound.{soundLists, copiesIn};
-ghost use Rattle.octree.specs.Tree.{treeRoom, treeRefusal, builtNumber, builtValues};
+ghost use Rattle.octree.specs.Tree.{treeRoom, builtAnswer, builtNumber};
 ghost use Rattle.tree.specs.Points.{wrapFrom, treeCenters, treeWaters, finiteWaters};
-ghost use Rattle.tree.specs.Tree.{treeOver, treeOn, frameTree, wholeRecords, testRefusals, treeCallRefusal, treeCallValues, treeNumber, treeAnswered, centerOrderAfter, waterOrderAfter, recordsAfter, boxesAfter};
+ghost use Rattle.tree.specs.Tree.{treeOver, treeOn, frameTree, wholeRecords, testRefusals, treeCallRefusal, treeAnswer, treeNumber, centerOrderAfter, waterOrderAfter, recordsAfter, boxesAfter};
 use cell::Cell;
+use octants::bounds::OctreeBounds;
 use octree::Built;
-use octree::bounds::OctreeBounds;
 
 // What Tree answers: the number of nodes and the greatest depth, or a refusal by its number.
 pub enum TreeAnswer {
@@ -131,8 +130,7 @@ fn tree_over(
 ) -> Built
     requires { ⌜ (n * 3 ≤ length (now centers)) × (m * 3 ≤ length (now waters)) × (n ≤ 65536) × (m ≤ 65536) ⌝ }
     requires { ⌜ (n ≤ length (now «center_order»)) × (m ≤ length (now «water_order»)) ⌝ }
-    ensures number { λ r. ⌜ builtNumber r ≡ treeRefusal (treeRoom (now (records .entry)) (now (boxes .entry)) limit) (treeOver cell (now (centers .entry)) n (now (waters .entry)) m) ⌝ }
-    ensures values { λ r. ⌜ builtValues r ≡ treeCallValues (builtNumber r) (treeOver cell (now (centers .entry)) n (now (waters .entry)) m) ⌝ }
+    ensures answer { λ r. ⌜ r ≡ builtAnswer (treeRoom (now (records .entry)) (now (boxes .entry)) limit) (treeOver cell (now (centers .entry)) n (now (waters .entry)) m) ⌝ }
     ensures order { λ r. ⌜ now («center_order» .exit) ≡ centerOrderAfter (builtNumber r) (treeOver cell (now (centers .entry)) n (now (waters .entry)) m) n (now («center_order» .entry)) ⌝ }
     ensures water { λ r. ⌜ now («water_order» .exit) ≡ waterOrderAfter (builtNumber r) (treeOver cell (now (centers .entry)) n (now (waters .entry)) m) m (now («water_order» .entry)) ⌝ }
     ensures table { λ r. ⌜ now (records .exit) ≡ recordsAfter (builtNumber r) (treeOver cell (now (centers .entry)) n (now (waters .entry)) m) (now (records .entry)) ⌝ }
@@ -168,8 +166,7 @@ pub fn tree_of(
     requires { ⌜ soundLists (now solutes) (now starts) (now picks) ≡ true ⌝ }
     requires { ⌜ (m * 3 ≤ length (now wrapped)) × (m ≤ 65536) ⌝ }
     requires { ⌜ (copiesIn (now starts) ≤ length (now «center_order»)) × (m ≤ length (now «water_order»)) ⌝ }
-    ensures number { λ r. ⌜ builtNumber r ≡ treeRefusal (treeRoom (now (records .entry)) (now (boxes .entry)) limit) (treeOn cell (now (solutes .entry)) (now (starts .entry)) (now (picks .entry)) (now (wrapped .entry)) m) ⌝ }
-    ensures values { λ r. ⌜ builtValues r ≡ treeCallValues (builtNumber r) (treeOn cell (now (solutes .entry)) (now (starts .entry)) (now (picks .entry)) (now (wrapped .entry)) m) ⌝ }
+    ensures answer { λ r. ⌜ r ≡ builtAnswer (treeRoom (now (records .entry)) (now (boxes .entry)) limit) (treeOn cell (now (solutes .entry)) (now (starts .entry)) (now (picks .entry)) (now (wrapped .entry)) m) ⌝ }
     ensures order { λ r. ⌜ now («center_order» .exit) ≡ centerOrderAfter (builtNumber r) (treeOn cell (now (solutes .entry)) (now (starts .entry)) (now (picks .entry)) (now (wrapped .entry)) m) (copiesIn (now (starts .entry))) (now («center_order» .entry)) ⌝ }
     ensures water { λ r. ⌜ now («water_order» .exit) ≡ waterOrderAfter (builtNumber r) (treeOn cell (now (solutes .entry)) (now (starts .entry)) (now (picks .entry)) (now (wrapped .entry)) m) m (now («water_order» .entry)) ⌝ }
     ensures table { λ r. ⌜ now (records .exit) ≡ recordsAfter (builtNumber r) (treeOn cell (now (solutes .entry)) (now (starts .entry)) (now (picks .entry)) (now (wrapped .entry)) m) (now (records .entry)) ⌝ }
@@ -203,8 +200,7 @@ pub fn tree(
     records: &mut [u32],
     boxes: &mut [f32],
 ) -> TreeAnswer
-    ensures answer { λ r. ⌜ treeNumber r ≡ treeCallRefusal cell (now (solutes .entry)) (now (waters .entry)) (now (starts .entry)) (now (picks .entry)) (now («center_order» .entry)) (now («water_order» .entry)) (wholeRecords (now (records .entry)) (now (boxes .entry))) ⌝ }
-    ensures values { λ r. ⌜ treeAnswered r ≡ treeCallValues (treeNumber r) (frameTree cell (now (solutes .entry)) (now (waters .entry)) (now (starts .entry)) (now (picks .entry))) ⌝ }
+    ensures answer { λ r. ⌜ r ≡ treeAnswer (treeCallRefusal cell (now (solutes .entry)) (now (waters .entry)) (now (starts .entry)) (now (picks .entry)) (now («center_order» .entry)) (now («water_order» .entry)) (wholeRecords (now (records .entry)) (now (boxes .entry)))) (frameTree cell (now (solutes .entry)) (now (waters .entry)) (now (starts .entry)) (now (picks .entry))) ⌝ }
     ensures order { λ r. ⌜ now («center_order» .exit) ≡ centerOrderAfter (treeNumber r) (frameTree cell (now (solutes .entry)) (now (waters .entry)) (now (starts .entry)) (now (picks .entry))) (copiesIn (now (starts .entry))) (now («center_order» .entry)) ⌝ }
     ensures water { λ r. ⌜ now («water_order» .exit) ≡ waterOrderAfter (treeNumber r) (frameTree cell (now (solutes .entry)) (now (waters .entry)) (now (starts .entry)) (now (picks .entry))) (finiteWaters (now (waters .entry))) (now («water_order» .entry)) ⌝ }
     ensures table { λ r. ⌜ now (records .exit) ≡ recordsAfter (treeNumber r) (frameTree cell (now (solutes .entry)) (now (waters .entry)) (now (starts .entry)) (now (picks .entry))) (now (records .entry)) ⌝ }

@@ -6,9 +6,10 @@ use mathlib.Core.Path.{_≡_, sym, ap, _∙_}
 use Prim.Native.Nat.{ℕ, min}
 use lib.ListN.{length, replicate}
 use lib.Ieee.{binary32, ofBits}
-use Rattle.octree.specs.Tree.{Subtrees, treeOf, treeRoom, firstNumbers}
+use Rattle.octree.specs.Tree.{Subtrees, treeOf, treeRoom}
+use Rattle.nodes.specs.Nodes.{firstNumbers}
 use Rattle.octree.specs.Inner.{Planted}
-use Rattle.octree.proofs.Filling.{numbers-none}
+use Rattle.nodes.proofs.Filling.{numbers-none}
 use Rattle.octree.proofs.Planting.{full-of, filled-of, planted-at}
 use Rattle.octree.proofs.Answering.{numbered, tree-none, tree-some, cap-full, cap-fits, answered-none, answered-full, answered-fits}
 use Rattle.octree.proofs.build_tree.Statement.{statement}

@@ -8,14 +8,21 @@ use borrow.Author.Needs.{needs}
 use lib.ListN.{length}
 use lib.Ieee.{Float}
 use Rattle.selection.specs.Sound.{copiesIn}
-use Rattle.octree.specs.Tree.{Subtrees, treeRoom, treeRefusal, builtNumber, builtValues}
+use Rattle.octree.specs.Tree.{Subtrees, treeRoom, treeRefusal, builtAnswer, builtNumber}
 use Rattle.tree.specs.Points.{finiteWaters}
-use Rattle.tree.specs.Tree.{frameTree, treeOn, wholeRecords, treeCallRefusal}
+use Rattle.tree.specs.Tree.{frameTree, treeOn, wholeRecords, treeCallRefusal, treeAnswer}
 use Rattle.tree.proofs.WaterList.{waters-length, waters-few}
 use Rattle.tree.proofs.TreeRefusals.{Tested, tested, call-tested, call-room}
-use Rattle.tree.proofs.Outcomes.{Leaves, unchanged, answers-same, over-waters}
+use Rattle.tree.proofs.Outcomes.{Leaves, unchanged, answers-same, asTree, tree-built, tree-refused, over-waters}
 use Rattle.tree.proofs.tree.Statement.{statement}
 use Rattle.tree.proofs.tree.Tie as tie
+
+-- the frame's tree, and the number that the call refuses with
+abbrev inFrame : tie.Start → Subtrees
+inFrame st = frameTree (st .args .cell) (st .args .solutes .now) (st .args .waters .now) (st .args .starts .now) (st .args .picks .now)
+
+abbrev refused : tie.Start → ℕ
+refused st = treeCallRefusal (st .args .cell) (st .args .solutes .now) (st .args .waters .now) (st .args .starts .now) (st .args .picks .now) (st .args .center-order .now) (st .args .water-order .now) (wholeRecords (st .args .records .now) (st .args .boxes .now))
 
 -- the input passed the tests
 passed :
@@ -28,10 +35,10 @@ passed c =
 -- what the builder answered is Tree's answer
 answered :
     (c : tie.After-tree-of) → let st = c .before .before .before .before .before .before .before .before .before .before .before .before .before .before .before .before .before .before .before .before .before in
-    let t = (frameTree (st .args .cell) (st .args .solutes .now) (st .args .waters .now) (st .args .starts .now) (st .args .picks .now)) in
+    let t = inFrame st in
     let b = c .tree-of .result in
-    (builtNumber b ≡ treeCallRefusal (st .args .cell) (st .args .solutes .now) (st .args .waters .now) (st .args .starts .now) (st .args .picks .now) (st .args .center-order .now) (st .args .water-order .now) (wholeRecords (st .args .records .now) (st .args .boxes .now)))
-    × Leaves (builtNumber b) (builtValues b) t (copiesIn (st .args .starts .now)) (finiteWaters (st .args .waters .now))
+    (asTree b ≡ treeAnswer (refused st) t)
+    × Leaves (builtNumber b) t (copiesIn (st .args .starts .now)) (finiteWaters (st .args .waters .now))
     (st .args .center-order .now) (c .tree-of .last .1 .1 .1 .1 .1 .1 .0) (st .args .water-order .now) (c .tree-of .last .1 .1 .1 .1 .1 .1 .1 .0)
     (st .args .records .now) (c .tree-of .last .1 .1 .1 .1 .1 .1 .1 .1 .0) (st .args .boxes .now) (c .tree-of .last .1 .1 .1 .1 .1 .1 .1 .1 .1 .0)
 answered c =
@@ -50,7 +57,7 @@ answered c =
     (put .result)
     (finiteWaters (st .args .waters .now))
     (tree (put .last .1 .1 .0) (put .result))
-    (frameTree (st .args .cell) (st .args .solutes .now) (st .args .waters .now) (st .args .starts .now) (st .args .picks .now))
+    (inFrame st)
     (st .args .center-order .now)
     (c .tree-of .last .1 .1 .1 .1 .1 .1 .0)
     (st .args .water-order .now)
@@ -63,7 +70,9 @@ answered c =
     (put .ensures .0)
     (c .tree-of .ensures) in
     let none = sym (else .before .refusal .ensures) ∙ else .if1 .left in
-    (got .0 ∙ ap (λ (k : ℕ). treeRefusal k (frameTree (st .args .cell) (st .args .solutes .now) (st .args .waters .now) (st .args .starts .now) (st .args .picks .now))) same-room ∙ sym (call-room (st .args .cell) (st .args .solutes .now) (st .args .waters .now) (st .args .starts .now) (st .args .picks .now) (st .args .center-order .now) (st .args .water-order .now) room none), got .1)
+    let thirteen : refused st ≡ treeRefusal room (inFrame st) =
+    call-room (st .args .cell) (st .args .solutes .now) (st .args .waters .now) (st .args .starts .now) (st .args .picks .now) (st .args .center-order .now) (st .args .water-order .now) room none in
+    (tree-built (inFrame st) room (refused st) (c .tree-of .result) thirteen (got .0 ∙ ap (λ (k : ℕ). builtAnswer k (inFrame st)) same-room), got .1)
 
 refusal-requires : tie.Need-refusal-requires
 refusal-requires c κs = search needs
@@ -79,8 +88,8 @@ returns c =
     let st = c .before .before .before .before .before .before .before .before .before .before .before .before in
     let r = c .before .refusal .result in
     let first = call-tested (st .args .cell) (st .args .solutes .now) (st .args .waters .now) (st .args .starts .now) (st .args .picks .now) (st .args .center-order .now) (st .args .water-order .now) (wholeRecords (st .args .records .now) (st .args .boxes .now)) r (c .before .refusal .ensures) (c .if1 .taken) in (
-      first .0,
-      unchanged r (frameTree (st .args .cell) (st .args .solutes .now) (st .args .waters .now) (st .args .starts .now) (st .args .picks .now)) (copiesIn (st .args .starts .now)) (finiteWaters (st .args .waters .now)) (st .args .center-order .now) (st .args .water-order .now) (st .args .records .now) (st .args .boxes .now) (c .if1 .taken) (first .1),
+      tree-refused (inFrame st) r (c .if1 .taken) ∙ ap (λ (k : ℕ). treeAnswer k (inFrame st)) (first .0),
+      unchanged r (inFrame st) (copiesIn (st .args .starts .now)) (finiteWaters (st .args .waters .now)) (st .args .center-order .now) (st .args .water-order .now) (st .args .records .now) (st .args .boxes .now) (c .if1 .taken) (first .1),
     )
 
 slice-aggregate-put-waters : tie.Need-slice-aggregate-put-waters

@@ -13,7 +13,7 @@ use mathlib.Core.List.{List}
 use Prim.Native.Nat.{ℕ, _+_, _-_, _*_, _≤_, _<_, max}
 use lib.ListN.{length, getD}
 use lib.Ieee.{Float}
-use Rattle.octree.specs.declared.bounds.OctreeBounds.{OctreeBounds}
+use Rattle.octants.specs.declared.bounds.OctreeBounds.{OctreeBounds}
 use Rattle.octree.specs.Tree.{rooted, subtree}
 use Rattle.octree.specs.Inner.{Ready, Planted}
 use Rattle.octree.proofs.Children.{subtree-by, subtree-roots, subtree-some}
@@ -23,10 +23,10 @@ use Rattle.octree.proofs.Planting.{finish, full-of, filled-of}
 use Rattle.octree.proofs.build.build.Reads as build
 use Rattle.octree.proofs.build.build.Kinds as build-kinds
 use Rattle.octree.proofs.build.+build.Lts-build as build-lts
-use Rattle.octree.proofs.bounds.OctreeBounds.child.Reads as child-reads
+use Rattle.octants.proofs.bounds.OctreeBounds.child.Reads as child-reads
 use Rattle.octree.proofs.build.larger.Reads as larger-reads
-use Rattle.octree.proofs.build.divide.Reads as divide-reads
-use Rattle.octree.proofs.node.put_node.Reads as put-node-reads
+use Rattle.octants.proofs.divide.Reads as divide-reads
+use Rattle.nodes.proofs.put_node.Reads as put-node-reads
 use Rattle.octree.proofs.build.+build.{statement}
 use Rattle.octree.proofs.build.+build.Tie.{close}
 
@@ -187,7 +187,7 @@ module _ (t : ℕ) where
   nw c = getD (wcounts (c .before .before)) (oct c) 0
 
   some-left : (c : Going) → 0 < c .before .loop .left
-  some-left c = c .loop-test .taken
+  some-left c = omega (arith, c .loop-test .taken)
 
   visited : (c : Going) (q : From (c .before .before)) → Visited (site (c .before .before) q) (turn (c .before)) (c .before .loop .left - 1) (oct c) (nc c) (nw c)
   visited c q =
@@ -278,7 +278,7 @@ module _ (t : ℕ) where
   loop-again c =
       let s = c .before in
       let sz = sizes (s .before) in (
-        λ q. step-empty (grows (s .before) q) (visited s q) (c .if2 .taken),
+        λ q. step-empty (grows (s .before) q) (visited s q) (omega (arith, c .if2 .taken)),
         record {
           same-c = sz .same-c;
           same-w = sz .same-w;

@@ -1,0 +1,2 @@
+-- A tree's nodes and their tables.
+pub mod Nodes
