@@ -1,21 +1,19 @@
--- The boxes of a tree stay within the cell's bounds: corners and centers are 2 ^ 16 at most in magnitude, sides 2 ^ 17, so expected counts
--- are finite. Assumes nothing.
-use mathlib.Core.Bool.{Bool, true, false, cond}
-use Prim.Native.Nat.{ℕ, _+_, _*_, _^_, _≤_}
+-- The boxes of a tree stay within the cell's bounds: corners and centers are 2 ^ 16 at most in magnitude, sides 2 ^ 17.
+-- Assumes nothing.
+use mathlib.Core.Bool.{false}
+use Prim.Native.Nat.{ℕ, _*_, _^_, _≤_}
 use native.Mathlib.Omega.{arith}
 use native.Mathlib.Nat.{mul-pos}
 use lib.Bits.{bitAnd}
 use lib.Dec.{eqb, lit<, lit≤}
-use lib.Ieee.{Float, nan, inf, fin, binary32, unlike, up, down, add, mul, lt, ofBits, ofFields, round, size, span, climb, units, odd}
+use lib.Ieee.{Float, nan, inf, fin, binary32, unlike, up, down, add, mul, ofBits}
 use lib.Ieee.Fits.{down-pos}
 use Rattle.numbers.proofs.Bounds.{Within, exact-pow, round-within}
 use Rattle.cell.specs.declared.Vec3.{Vec3}
-use Rattle.cell.specs.declared.Cell.{Cell}
-use Rattle.cell.specs.Cell.{extentOf, volumeOf}
-use Rattle.cell.proofs.Finite.{Around, Sides, pow-more, add-pow, sub-pow, mul-pow}
-use Rattle.octree.specs.declared.bounds.OctreeBounds.{OctreeBounds}
-use Rattle.octree.specs.Bounds.{middle, boxBetween, corner, childOf}
-use Rattle.report.specs.Leaf.{smaller, twiceShell, expanded}
+use Rattle.cell.proofs.Finite.{Around, add-pow, sub-pow}
+use Rattle.octants.specs.declared.bounds.OctreeBounds.{OctreeBounds}
+use Rattle.octants.specs.Bounds.{middle, boxBetween, corner, childOf}
+use Rattle.leaf.proofs.ExpectedBounds.{cond-within}
 
 -- ---- one axis: half of a sum of two bounds is a bound again
 half-within : (s : Float) → Within (2 ^ 17) s → Within (2 ^ 16) (mul binary32 s (ofBits binary32 0x3f00_0000))
@@ -57,10 +55,6 @@ between-bounded l h al ah =
           };
     }
 
-cond-within : (B : ℕ) (t : Bool) (x y : Float) → Within B x → Within B y → Within B (cond t x y)
-cond-within B true x y p q = p
-cond-within B false x y p q = q
-
 corner-around : (o : ℕ) (p q : Vec3) → Around 16 p → Around 16 q → Around 16 (corner o p q)
 corner-around o p q a b =
     record {
@@ -73,29 +67,3 @@ pub child-bounded : (b : OctreeBounds) (o : ℕ) → Bounded b → Bounded (chil
 unfolding childOf
 child-bounded b o h =
     between-bounded (corner o (b .low) (b .center)) (corner o (b .center) (b .high)) (corner-around o (b .low) (b .center) (h .low) (h .center)) (corner-around o (b .center) (b .high) (h .center) (h .high))
-
--- ---- volumes
-pub volume-pow : (k : ℕ) (e : Vec3) → k + k + k ≤ 127 → Around k e → Within (2 ^ (k + k + k)) (volumeOf e)
-unfolding volumeOf
-volume-pow k e h a = mul-pow (k + k) k (mul binary32 (e .x) (e .y)) (e .z) h (mul-pow k k (e .x) (e .y) (omega arith) (a .on-x) (a .on-y)) (a .on-z)
-
--- twice the shell is 8.4
-shell-within : Within (2 ^ 4) twiceShell
-unfolding ofBits ofFields mul round size span climb units odd
-shell-within = lit≤ tt
-
--- a side with the shell on both ends, at most the cell's
-side-within : (s e : Float) → Within (2 ^ 17) s → Within (2 ^ 17) e → Within (2 ^ 18) (smaller (add binary32 s twiceShell) e)
-unfolding smaller
-side-within s e ws we =
-    cond-within (2 ^ 18) (lt e (add binary32 s twiceShell)) e (add binary32 s twiceShell) (pow-more e 17 18 (lit≤ tt) we)
-    (add-pow 17 4 18 s twiceShell (lit< tt) (lit< tt) (lit≤ tt) ws shell-within)
-
-pub expanded-around : (c : Cell) (b : OctreeBounds) → Sides (extentOf c) → Around 17 (b .extent) → Around 18 (expanded c b)
-unfolding expanded
-expanded-around c b s a =
-    record {
-      on-x = side-within (b .extent .x) (extentOf c .x) (a .on-x) (s .on-x .within);
-      on-y = side-within (b .extent .y) (extentOf c .y) (a .on-y) (s .on-y .within);
-      on-z = side-within (b .extent .z) (extentOf c .z) (a .on-z) (s .on-z .within);
-    }

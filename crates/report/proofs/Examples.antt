@@ -1,8 +1,6 @@
--- Document 01's listed frame and its checked frames of the leaf report, worked out by the definitions: `checked`, one statement for the lot.
--- Numbers are given by their f32 bits. Assumes nothing.
+-- The report of document 01's listed frame, worked out by the definitions: `checked`. Numbers are given by their f32 bits. Assumes nothing.
 use mathlib.Core.Path.{_≡_, refl}
 use mathlib.Core.List.{List, [], _∷_}
-use Prim.Native.Nat.{ℕ}
 use lib.Ieee.{Float, binary32, ofBits, toBits, ofInt, add, sub, mul, div, neg, lt, le}
 use Rattle.numbers.specs.Whole.{floorOf, roundOf}
 use Rattle.numbers.specs.Root.{sqrtOf}
@@ -12,13 +10,15 @@ use Rattle.cell.proofs.Examples.{upTo}
 use Rattle.selection.specs.Sound.{pickList}
 use Rattle.dispersion.specs.Centers.{plus, dividedBy, unwrapped, sumFrom, anchorOf, centerOf, centersFrom, centersOf}
 use Rattle.dispersion.specs.Dispersion.{clamped}
-use Rattle.octree.specs.Bounds.{childOf, wideBox, octantAt}
-use Rattle.octree.specs.Split.{select}
-use Rattle.octree.specs.Tree.{Node, whereSome, childrenFrom, subtree, firstNumbers, treeOf, deepest}
+use Rattle.octants.specs.Bounds.{childOf, wideBox, octantAt}
+use Rattle.octants.specs.Split.{select}
+use Rattle.nodes.specs.Nodes.{Node, firstNumbers, deepest}
+use Rattle.octree.specs.Tree.{whereSome, childrenFrom, subtree, treeOf}
 use Rattle.tree.specs.Points.{wrapFrom, wrapFiniteFrom, treeCenters, treeWaters}
 use Rattle.tree.specs.Tree.{frameTree}
-use Rattle.report.specs.Leaf.{smaller, larger, halfSide, withinHalf, inShell, shellFrom, expanded, roomVolume, densityOf, occupancyOf, referenceLeaves, referenceVolume, partitionScore}
-use Rattle.report.specs.Report.{leafWords, leavesFrom, leafTable, reportedLeaves, dryLeaves, reportValues}
+use Rattle.leaf.specs.Leaf.{smaller, larger, halfSide, withinHalf, inShell, shellFrom, expanded, roomVolume, densityOf, occupancyOf, referenceLeaves, referenceVolume, partitionScore}
+use Rattle.report.specs.Report.{leafWords, leavesFrom, leafTable, reportedLeaves, dryLeaves, reportAnswer}
+use Rattle.report.specs.declared.Reported.the-variants.{Leaves}
 
 -- ---- cell 0..16, solutes (2,2,2) and (4,2,2), one atom per copy, water (6,6,6)
 abbrev cell : Cell
@@ -42,13 +42,8 @@ nodes = frameTree cell solutes waters (0 ∷ 1 ∷ 2 ∷ []) (0 ∷ 1 ∷ []) .n
 pub record Checked : Type 0 where
   -- six nodes, depth 3, two leaves, both dry; one water in each shell, 1 of 0.75 expected
   pub listed : leafTable cell 2 (treeWaters cell waters) nodes ≡ 3 ∷ 1 ∷ 0 ∷ 0 ∷ 1 ∷ 0x3faa_aaab ∷ 0x3e00_0000 ∷ 0 ∷ 4 ∷ 1 ∷ 0 ∷ 0 ∷ 1 ∷ 0x3faa_aaab ∷ 0x3e00_0000 ∷ 0 ∷ []
-  pub values : reportValues nodes ≡ 6 ∷ 3 ∷ 2 ∷ 2 ∷ []
-  -- copies 8 and 9: references over 8 and over 64, of 4096
-  pub eight-copies : referenceVolume cell 8 ≡ ofBits binary32 0x4400_0000
-  pub nine-copies : referenceVolume cell 9 ≡ ofBits binary32 0x4280_0000
-  -- partition 8 of 512, one center: 0.125
-  pub partition : partitionScore (ofBits binary32 0x4100_0000) (ofBits binary32 0x4400_0000) 1 ≡ ofBits binary32 0x3e00_0000
+  pub answer : reportAnswer 0 nodes ≡ Leaves 6 3 2 2
 
 pub checked : Checked
-unfolding frameTree treeCenters treeWaters wrapFrom wrapFiniteFrom centersOf centersFrom centerOf anchorOf sumFrom unwrapped dividedBy plus pickList pointAt finitePoint wrap wrapAxis minImage imageAxis minus extentOf volumeOf floorOf roundOf treeOf whereSome subtree childrenFrom firstNumbers select octantAt childOf wideBox deepest leafTable leavesFrom leafWords reportedLeaves dryLeaves reportValues smaller larger halfSide withinHalf inShell shellFrom expanded roomVolume densityOf occupancyOf referenceLeaves referenceVolume partitionScore clamped sqrtOf ofBits toBits ofInt add sub mul div neg lt le
-checked = record { listed = refl; values = refl; eight-copies = refl; nine-copies = refl; partition = refl }
+unfolding frameTree treeCenters treeWaters wrapFrom wrapFiniteFrom centersOf centersFrom centerOf anchorOf sumFrom unwrapped dividedBy plus pickList pointAt finitePoint wrap wrapAxis minImage imageAxis minus extentOf volumeOf floorOf roundOf treeOf whereSome subtree childrenFrom firstNumbers select octantAt childOf wideBox deepest leafTable leavesFrom leafWords reportedLeaves dryLeaves reportAnswer smaller larger halfSide withinHalf inShell shellFrom expanded roomVolume densityOf occupancyOf referenceLeaves referenceVolume partitionScore clamped sqrtOf ofBits toBits ofInt add sub mul div neg lt le
+checked = record { listed = refl; answer = refl }

@@ -11,7 +11,7 @@ use lib.Ieee.{Float}
 use Rattle.cell.specs.declared.Cell.{Cell}
 use Rattle.cell.specs.Tables.{placed, over}
 use Rattle.cell.proofs.Tables.{Filling, filling-first, filling-append, filling-last, placed-zero}
-use Rattle.octree.specs.Tree.{Node}
+use Rattle.nodes.specs.Nodes.{Node}
 use Rattle.report.specs.Report.{isReported, leafWords, nodeWords, leavesFrom, reportedLeaves, dryLeaves}
 use Rattle.report.specs.Inner.{nodeAt, nodesFrom}
 

@@ -1,9 +1,3 @@
--- Occupancies: what one is where water is seen.
-pub mod Occupancies
--- Whether a water is in a leaf's shell, an axis at a time.
-pub mod ShellAxes
--- The waters in a leaf's shell, counted one after the other.
-pub mod ShellCount
 -- The leaf table, node by node.
 pub mod LeafList
 -- What holds of the box of every node of a tree.
@@ -16,5 +10,5 @@ pub mod ReportOutcomes
 pub mod BoxBounds
 -- No ratio that Report writes has the bits 0.
 pub mod RatioBits
--- Document 01's listed frame and checked frames, by the definitions.
+-- The report of document 01's listed frame, by the definitions.
 pub mod Examples

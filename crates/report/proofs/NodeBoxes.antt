@@ -6,10 +6,11 @@ use Prim.Native.Nat.{ℕ, zero, suc, _+_, _-_}
 use lib.Dec.{eqb}
 use lib.ListN.{length}
 use lib.Ieee.{Float}
-use Rattle.octree.specs.declared.bounds.OctreeBounds.{OctreeBounds}
-use Rattle.octree.specs.Bounds.{boxBetween, childOf}
-use Rattle.octree.specs.Split.{octantPoints}
-use Rattle.octree.specs.Tree.{Node, Builder, none, whereSome, splits, childrenFrom, subtree, treeOf, pointNumbers}
+use Rattle.octants.specs.declared.bounds.OctreeBounds.{OctreeBounds}
+use Rattle.octants.specs.Bounds.{boxBetween, childOf}
+use Rattle.octants.specs.Split.{octantPoints, splits}
+use Rattle.nodes.specs.Nodes.{Node}
+use Rattle.octree.specs.Tree.{Builder, none, whereSome, childrenFrom, subtree, treeOf, pointNumbers}
 
 -- P holds of each node's box
 pub data Boxed (P : OctreeBounds → Type 0) : List Node → Type 0 where

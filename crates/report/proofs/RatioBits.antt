@@ -1,169 +1,29 @@
--- No ratio that Report writes has the bits 0, so that the word 0 is dry alone: what is seen is 1 at least, and what is expected, 0.75 at
--- least, is below 2 ^ 100. Assumes nothing.
-use mathlib.Core.Path.{_≡_, refl, sym, ap, _∙_, subst}
-use mathlib.Core.Bool.{Bool, true, false, cond, _||_}
+-- No ratio that Report writes has the bits 0, so that the word 0 is dry alone: every box of a tree stays within the cell's bounds. Assumes
+-- nothing.
+use mathlib.Core.Path.{_≡_}
 use mathlib.Core.List.{List}
-use Prim.Native.Nat.{ℕ, zero, suc, _+_, _*_, _^_, _≤_, _<_}
-use native.Mathlib.Nat.{mul-pos, mul-le-mul, mul-assoc, mul-comm, mul-left-comm, le-trans, le-of-eq, one-mul}
+use Prim.Native.Nat.{ℕ, zero, suc, _≤_, _<_}
 use native.Mathlib.Omega.{arith}
 use borrow.Author.Tests.{ltb-false}
-use lib.Dec.{T, lit<, lit≤, ltb→lt}
-use lib.IntN.{pos}
-use lib.Pow.{pow-pos}
 use lib.ListN.{length, getD}
-use lib.Ieee.{Float, nan, inf, fin, binary32, up, down, fits, mul, div, lt, le, eq, ofInt, ofBits, toBits, ofFields, round, size, span, climb, units, odd}
-use lib.Ieee.Fits.{div-fits, up-pos, down-pos}
-use lib.Ieee.Bits.{ofBits-toBits}
-use lib.Ieee.Order.{round-mono}
-use lib.Ieee.Positive.{num, den, den-pos, positive, above, above-of-le, between, le→cross}
-use Rattle.numbers.proofs.Bounds.{Within, exact-pow, round-within}
-use Rattle.numbers.proofs.Operations.{div-is}
-use Rattle.numbers.proofs.Quotients.{AtLeast, div-within}
+use lib.Ieee.{Float, binary32, mul}
 use Rattle.cell.specs.declared.Cell.{Cell}
-use Rattle.cell.specs.Cell.{epsilon, extentOf, volumeOf}
+use Rattle.cell.specs.Cell.{volumeOf}
 use Rattle.cell.specs.Limits.{long, frameRefusals}
 use Rattle.cell.specs.Refusals.{firstRefusal}
-use Rattle.cell.proofs.Finite.{pow-more, mul-pow, volume-within}
-use Rattle.cell.proofs.FiniteFrame.{Limited, limited}
+use Rattle.cell.proofs.FiniteFrame.{limited}
 use Rattle.cell.proofs.FrameRefusals.{frame-none}
-use Rattle.octree.specs.declared.bounds.OctreeBounds.{OctreeBounds}
-use Rattle.octree.specs.Bounds.{cellBox}
-use Rattle.octree.specs.Tree.{Node}
+use Rattle.octants.specs.declared.bounds.OctreeBounds.{OctreeBounds}
+use Rattle.octants.specs.Bounds.{cellBox}
+use Rattle.nodes.specs.Nodes.{Node}
 use Rattle.tree.specs.Points.{treeCenters, treeWaters, finiteWaters}
 use Rattle.tree.specs.Tree.{frameTree}
 use Rattle.tree.proofs.WaterList.{waters-length, waters-few}
-use Rattle.report.specs.Leaf.{larger, roomVolume, densityOf, expanded, occupancyOf, occupancyWord}
+use Rattle.leaf.specs.Leaf.{densityOf, expanded, occupancyOf, occupancyWord}
+use Rattle.leaf.proofs.Ratios.{ratios-not-zero}
 use Rattle.report.proofs.NodeBoxes.{Boxed, no-box, one-box, tree-boxed}
-use Rattle.report.proofs.BoxBounds.{Bounded, between-bounded, child-bounded, volume-pow, expanded-around}
+use Rattle.report.proofs.BoxBounds.{Bounded, between-bounded, child-bounded}
 
--- ---- a quotient of what is 1 at least by what is 2 ^ 100 at most is above zero
-div-positive : (x y : Float) → T (positive x) → T (positive y) → div binary32 x y ≡ round binary32 false (num x * den y) (num y * den x)
-div-positive nan y p q = absurd p
-div-positive (inf s) y p q = absurd p
-div-positive (fin true m e) y p q = absurd p
-div-positive (fin false m e) nan p q = absurd q
-div-positive (fin false m e) (inf t) p q = absurd q
-div-positive (fin false m e) (fin true n d) p q = absurd q
-div-positive (fin false m e) (fin false n d) p q = div-is binary32 false m e false n d (ltb→lt 0 n q)
-
-num-pos : (x : Float) → T (positive x) → 0 < num x
-num-pos nan p = absurd p
-num-pos (inf s) p = absurd p
-num-pos (fin true m e) p = absurd p
-num-pos (fin false m e) p = mul-pos (ltb→lt 0 m p) (up-pos e)
-
-tiny : T (positive (round binary32 false 1 (2 ^ 100)))
-unfolding round size span climb units odd
-tiny = tt
-
-quotient-above : (x y : Float) → T (positive x) → den x ≤ num x → T (positive y) → num y ≤ 2 ^ 100 * den y → T (above (div binary32 x y))
-quotient-above x y p one q few =
-    subst (λ (z : Float). T (above z)) (sym (div-positive x y p q))
-    (above-of-le (round binary32 false 1 (2 ^ 100)) (round binary32 false (num x * den y) (num y * den x)) tiny
-    (round-mono binary32 1 (2 ^ 100) (num x * den y) (num y * den x) (pow-pos 100) (mul-pos (num-pos y q) (den-pos x))
-    (le-trans (le-of-eq (one-mul (num y * den x))) (le-trans (mul-le-mul few one) (le-of-eq (turned (2 ^ 100) (den y) (num x)))))))
-  where
-    turned : (a b c : ℕ) → a * b * c ≡ c * b * a
-    turned a b c = simp (mul-assoc, mul-comm, mul-left-comm)
-
--- ---- what is seen, and what is expected
-one-positive : T (positive (round binary32 false 1 1))
-unfolding round size span climb units odd
-one-positive = tt
-
-many-positive : T (positive (round binary32 false 65536 1))
-unfolding round size span climb units odd
-many-positive = tt
-
-crossed : (d m : ℕ) → num (round binary32 false 1 1) * d ≤ m * den (round binary32 false 1 1) → d ≤ m
-unfolding round size span climb units odd
-crossed d m h = omega arith
-
-seen-big : (n : ℕ) → n < 65536 → T (positive (ofInt binary32 (pos (suc n)))) × (den (ofInt binary32 (pos (suc n))) ≤ num (ofInt binary32 (pos (suc n))))
-unfolding ofInt
-seen-big n h =
-    let x = round binary32 false (suc n) 1 in
-    let lo : T (le (round binary32 false 1 1) x) = round-mono binary32 1 1 (suc n) 1 (lit< tt) (lit< tt) (omega arith) in
-    let hi : T (le x (round binary32 false 65536 1)) = round-mono binary32 (suc n) 1 65536 1 (lit< tt) (lit< tt) (omega arith) in
-    let p : T (positive x) = between (round binary32 false 1 1) x (round binary32 false 65536 1) one-positive many-positive lo hi in
-    (p, crossed (den x) (num x) (le→cross (round binary32 false 1 1) x one-positive p lo))
-
--- a bounded number above zero
-within-positive : (B : ℕ) (e : Float) → T (above e) → Within B e → T (positive e) × (num e ≤ B * den e)
-within-positive B nan a w = absurd a
-within-positive B (inf s) a w = absurd w
-within-positive B (fin true m e) a w = absurd a
-within-positive B (fin false m e) a w = (a, w)
-
-abbrev floor : Float
-floor = ofBits binary32 0x3f40_0000
-
-floor-positive : T (positive floor) × (num floor ≤ 2 ^ 100 * den floor)
-unfolding ofBits ofFields
-floor-positive = (tt, lit≤ tt)
-
-over-floor : (e : Float) → lt floor e ≡ true → T (above e)
-unfolding le
-over-floor e h = above-of-le floor e (floor-positive .0) (subst (λ (t : Bool). T (t || eq floor e)) (sym h) tt)
-
-expected-big : (e : Float) → Within (2 ^ 100) e → T (positive (larger floor e)) × (num (larger floor e) ≤ 2 ^ 100 * den (larger floor e))
-unfolding larger
-expected-big e w = by-test (lt floor e) refl
-  where
-    by-test : (t : Bool) → lt floor e ≡ t → T (positive (cond t e floor)) × (num (cond t e floor) ≤ 2 ^ 100 * den (cond t e floor))
-    by-test true h = within-positive (2 ^ 100) e (over-floor e h) w
-    by-test false h = floor-positive
-
--- ---- the word of a ratio
-above-word : (r : Float) → T (fits binary32 r) → T (above r) → toBits binary32 r ≡ 0 → ⊥
-unfolding ofBits ofFields
-above-word r f a h = subst (λ (z : Float). T (above z)) (sym (ofBits-toBits binary32 r f) ∙ ap (ofBits binary32) h) a
-
-pub word-not-zero : (n : ℕ) (expected : Float) → n < 65536 → Within (2 ^ 100) expected → occupancyWord (occupancyOf (suc n) expected) ≡ 0 → ⊥
-unfolding occupancyOf
-word-not-zero n expected h w =
-    let x = ofInt binary32 (pos (suc n)) in
-    let y = larger floor expected in
-    let seen = seen-big n h in
-    let some = expected-big expected w in
-    above-word (div binary32 x y) (div-fits binary32 x y) (quotient-above x y (seen .0) (seen .1) (some .0) (some .1))
-
--- ---- the density is 2 ^ 39 at most
-volume-at-least : (B : ℕ) (v : Float) → Within B v → lt v epsilon ≡ false → AtLeast 23 v
-unfolding lt ofBits ofFields
-volume-at-least B nan w h = absurd w
-volume-at-least B (inf s) w h = absurd w
-volume-at-least B (fin true m e) w h = absurd (never (m * up e * 2 ^ 23) (down e) (down-pos e) (ltb-false 0 (m * up e * 2 ^ 23 + 1 * down e) h))
-  where
-    never : (a d : ℕ) → 0 < d → a + 1 * d ≤ 0 → ⊥
-    never a d p q = omega arith
-volume-at-least B (fin false m e) w h = tidy (m * up e) (down e) (ltb-false (m * up e * 2 ^ 23) (1 * down e) h)
-  where
-    tidy : (a d : ℕ) → 1 * d ≤ a * 2 ^ 23 → d ≤ a * 2 ^ 23
-    tidy a d p = omega arith
-
-epsilon-at-least : AtLeast 23 epsilon
-unfolding ofBits ofFields
-epsilon-at-least = lit≤ tt
-
-room-at-least : (c : Cell) → Limited c → AtLeast 23 (roomVolume c)
-unfolding roomVolume larger
-room-at-least c l = by-test (lt (volumeOf (extentOf c)) epsilon) refl
-  where
-    volume : Within (2 ^ 51) (volumeOf (extentOf c))
-    volume = volume-within (extentOf c) (l .sides)
-
-    by-test : (t : Bool) → lt (volumeOf (extentOf c)) epsilon ≡ t → AtLeast 23 (cond t epsilon (volumeOf (extentOf c)))
-    by-test true h = epsilon-at-least
-    by-test false h = volume-at-least (2 ^ 51) (volumeOf (extentOf c)) volume h
-
-density-within : (c : Cell) (m : ℕ) → Limited c → m ≤ 65536 → Within (2 ^ 39) (densityOf c m)
-unfolding densityOf ofInt
-density-within c m l h =
-    div-within binary32 (round binary32 false m 1) (roomVolume c) (2 ^ 16) 23 (exact-pow binary32 39 (lit≤ tt))
-    (round-within binary32 false m 1 (2 ^ 16) (lit< tt) (exact-pow binary32 16 (lit≤ tt)) (omega arith)) (room-at-least c l)
-
--- ---- every box of a frame's tree
 boxed-at : (P : OctreeBounds → Type 0) {vs : List Node} → Boxed P vs → (v₀ : Node) (i : ℕ) → i < length vs → P (getD vs i v₀ .box)
 boxed-at P no-box v₀ i h = absurd (omega arith)
 boxed-at P (one-box p f) v₀ zero h = p
@@ -181,14 +41,7 @@ unfolding frameTree long
 ratio-not-zero c solutes waters starts picks ok v₀ i h n few =
     let l = limited c solutes waters ok in
     let cell = between-bounded (c .low) (c .high) (l .low-around) (l .high-around) in
-    let b = getD (frameTree c solutes waters starts picks .nodes) i v₀ .box in
-    let bounded : Bounded b = boxed-at Bounded (tree-boxed Bounded child-bounded (treeCenters c solutes starts picks) (treeWaters c waters) (cellBox c) cell) v₀ i h in
+    let bounded : Bounded (getD (frameTree c solutes waters starts picks .nodes) i v₀ .box) =
+    boxed-at Bounded (tree-boxed Bounded child-bounded (treeCenters c solutes starts picks) (treeWaters c waters) (cellBox c) cell) v₀ i h in
     let short : length waters ≤ 196608 = ltb-false 196608 (length waters) (frame-none c solutes waters ok .waters-few) in
-    let m : finiteWaters waters ≤ 65536 = omega (arith, waters-length c waters, waters-few c waters) in
-    let density = densityOf c (finiteWaters waters) in
-    let d = density-within c (finiteWaters waters) l m in
-    let own = mul-pow 39 51 density (volumeOf (b .extent)) (lit≤ tt) d (volume-pow 17 (b .extent) (lit≤ tt) (bounded .extent)) in
-    let shell = mul-pow 39 54 density (volumeOf (expanded c b)) (lit≤ tt) d (volume-pow 18 (expanded c b) (lit≤ tt) (expanded-around c b (l .sides) (bounded .extent))) in (
-      word-not-zero n (mul binary32 density (volumeOf (b .extent))) few (pow-more (mul binary32 density (volumeOf (b .extent))) 90 100 (lit≤ tt) own),
-      word-not-zero n (mul binary32 density (volumeOf (expanded c b))) few (pow-more (mul binary32 density (volumeOf (expanded c b))) 93 100 (lit≤ tt) shell),
-    )
+    ratios-not-zero c (getD (frameTree c solutes waters starts picks .nodes) i v₀ .box) (finiteWaters waters) n l (bounded .extent) (omega (arith, waters-length c waters, waters-few c waters)) few

@@ -9,8 +9,8 @@ use lib.Seq.{getD-drop, drop-drop}
 use lib.Ieee.{Float, nan}
 use Rattle.cell.specs.Cell.{pointAt}
 use Rattle.cell.specs.Tables.{over}
-use Rattle.octree.specs.Bounds.{boxBetween}
-use Rattle.octree.specs.Tree.{Node, recordOf, cornersOf, recordsOf, boxesOf}
+use Rattle.octants.specs.Bounds.{boxBetween}
+use Rattle.nodes.specs.Nodes.{Node, recordOf, cornersOf, recordsOf, boxesOf}
 use Rattle.report.specs.Inner.{nodeAt, nodesFrom}
 use Rattle.report.proofs.NodeBoxes.{Boxed, no-box, one-box, Between}
 

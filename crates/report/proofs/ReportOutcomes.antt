@@ -1,9 +1,9 @@
 -- What Report finds in the tables that Tree filled: the tree's own nodes, with words that are small, and the leaf table over the wrapped
 -- waters at the start of the local array. Assumes nothing.
-use mathlib.Core.Path.{_≡_, refl, ap, _∙_}
+use mathlib.Core.Path.{_≡_, refl, sym, ap, _∙_}
 use mathlib.Core.Bool.{Bool, true, false, cond}
 use mathlib.Core.List.{List, [], _∷_}
-use Prim.Native.Nat.{ℕ, _+_, _*_, _/_, _^_, _≤_, _<_}
+use Prim.Native.Nat.{ℕ, zero, suc, _+_, _*_, _/_, _^_, _≤_, _<_}
 use native.Mathlib.Omega.{arith}
 use borrow.Author.Tests.{ltb-false, ne-eqb}
 use lib.Dec.{ltb}
@@ -11,24 +11,34 @@ use lib.ListN.{length, getD, drop, replicate, List·getD-append}
 use lib.Ieee.{Float}
 use Rattle.cell.specs.declared.Cell.{Cell}
 use Rattle.cell.specs.Tables.{over}
+use Rattle.cell.proofs.Tables.{at-refusal, number-answered}
 use Rattle.selection.specs.Sound.{copiesIn, soundLists}
 use Rattle.selection.proofs.SoundLists.{sound-lists}
-use Rattle.octree.specs.Bounds.{cellBox}
-use Rattle.octree.specs.Tree.{Node, treeRefusal, deepest, recordOf, recordsOf}
-use Rattle.octree.proofs.NodeTables.{records-length, record-word}
+use Rattle.octants.specs.declared.bounds.OctreeBounds.{OctreeBounds}
+use Rattle.octants.specs.Bounds.{cellBox}
+use Rattle.nodes.specs.Nodes.{Node, deepest, recordOf, recordsOf}
+use Rattle.octree.specs.Tree.{treeRefusal}
+use Rattle.nodes.proofs.NodeTables.{records-length, record-word}
 use Rattle.octree.proofs.Counting.{nodes-few, nodes-within}
 use Rattle.tree.specs.Points.{treeCenters, treeWaters, finiteWaters}
-use Rattle.tree.specs.Tree.{frameTree, treeCallValues, recordsAfter, boxesAfter}
+use Rattle.tree.specs.Tree.{frameTree, recordsAfter, boxesAfter}
+use Rattle.tree.proofs.Wrapping.{point-over}
 use Rattle.tree.proofs.WaterList.{waters-length, waters-few}
 use Rattle.tree.proofs.Outcomes.{centers-size}
-use Rattle.report.specs.Leaf.{densityOf, referenceVolume}
-use Rattle.report.specs.Report.{leafWords, leavesFrom, leafTable, reportedLeaves, dryLeaves, reportValues, leavesAfter}
+use Rattle.leaf.specs.Leaf.{shellFrom, densityOf, referenceVolume}
+use Rattle.report.specs.Report.{leafWords, leavesFrom, leafTable, reportedLeaves, dryLeaves, reportAnswer, reportNumber, leavesAfter}
+use Rattle.report.specs.declared.Reported.{Reported}
+use Rattle.report.specs.declared.Reported.the-variants.{Leaves, Refused}
 use Rattle.report.specs.Inner.{nodeAt, nodesFrom}
-use Rattle.report.proofs.ShellCount.{shell-over}
 use Rattle.report.proofs.NodeBoxes.{tree-between}
 use Rattle.report.proofs.ReadBack.{read-back}
 
 -- ---- the leaf table over waters at the start of a longer list
+shell-over : (c : Cell) (b : OctreeBounds) (L t : List Float) (n i : ℕ) → (i + n) * 3 ≤ length L → shellFrom c b (over L t) n i ≡ shellFrom c b L n i
+unfolding shellFrom
+shell-over c b L t zero i h = refl
+shell-over c b L t (suc n) i h = rw (point-over L t i (omega arith), shell-over c b L t n (i + 1) (omega arith))
+
 leaves-over :
     (c : Cell) (density reference : Float) (L t : List Float) (m : ℕ) → m * 3 ≤ length L → (i : ℕ) (vs : List Node) →
     leavesFrom c density reference (over L t) m i vs ≡ leavesFrom c density reference L m i vs
@@ -46,17 +56,13 @@ module _ (c : Cell) (solutes waters : List Float) (starts picks : List ℕ) wher
       let size : length (treeWaters c waters) / 3 ≡ m = omega (arith, waters-length c waters) in
       rw (size, d, r, w) (leaves-over c (densityOf c m) (referenceVolume c (copiesIn starts)) (treeWaters c waters) t m (omega (arith, waters-length c waters)) 0 vs)
 
-  -- ---- what Tree left where nothing was refused: n nodes of greatest depth d, and both node tables
+  -- ---- what Tree left where nothing was refused: n nodes, and both node tables
   pub room-fits : (room : ℕ) → 0 ≡ treeRefusal room (frameTree c solutes waters starts picks) → length (frameTree c solutes waters starts picks .nodes) ≤ room
   room-fits room e = ltb-false room (length (frameTree c solutes waters starts picks .nodes)) (not-over (ltb room (length (frameTree c solutes waters starts picks .nodes))) e)
     where
       not-over : (b : Bool) → _≡_ {A = ℕ} 0 (cond b 13 0) → b ≡ false
       not-over true h = absurd (omega arith)
       not-over false h = refl
-
-  pub counted : (n d : ℕ) → n ∷ d ∷ [] ≡ treeCallValues 0 (frameTree c solutes waters starts picks) → (n ≡ length (frameTree c solutes waters starts picks .nodes)) × (d ≡ deepest (frameTree c solutes waters starts picks .nodes))
-  unfolding treeCallValues
-  counted n d e = (cc, cc)
 
   pub nodes-read :
       (n : ℕ) (rec rec' : List ℕ) (box box' : List Float) → n ≡ length (frameTree c solutes waters starts picks .nodes) →
@@ -104,6 +110,18 @@ pub leaves-filled : (c : Cell) (waters : List Float) (starts : List ℕ) (vs : L
 unfolding leavesAfter
 leaves-filled c waters starts vs leaves = refl
 
-pub values-are : (n d reported dry : ℕ) (vs : List Node) → n ≡ length vs → d ≡ deepest vs → reported ≡ reportedLeaves vs → dry ≡ dryLeaves vs → n ∷ d ∷ reported ∷ dry ∷ [] ≡ reportValues vs
-unfolding reportValues
-values-are n d reported dry vs e f g h = cc
+-- ---- the answer, by its number and the tree's nodes
+pub answer-leaves : (r n d reported dry : ℕ) (vs : List Node) → 0 ≡ r → n ≡ length vs → d ≡ deepest vs → reported ≡ reportedLeaves vs → dry ≡ dryLeaves vs → Leaves n d reported dry ≡ reportAnswer r vs
+unfolding reportAnswer
+answer-leaves r n d reported dry vs z e f g h = rw (← z, e, f, g, h)
+
+pub answer-refused : (k r : ℕ) (vs : List Node) → (k ≡ 0 → ⊥) → k ≡ r → Refused k ≡ reportAnswer r vs
+unfolding reportAnswer
+answer-refused k r vs h e = rw (← e) (sym (at-refusal k _ (Refused k) h))
+
+-- its number is the refusal's, and by that number it is the same answer
+pub report-told : (r : ℕ) (vs : List Node) (a : Reported) → a ≡ reportAnswer r vs → (reportNumber a ≡ r) × (a ≡ reportAnswer (reportNumber a) vs)
+unfolding reportAnswer
+report-told r vs a e =
+    let n = ap reportNumber e ∙ number-answered reportNumber Refused (Leaves (length vs) (deepest vs) (reportedLeaves vs) (dryLeaves vs)) refl (λ k. refl) r in
+    (n, e ∙ ap (λ (k : ℕ). reportAnswer k vs) (sym n))

@@ -4,8 +4,8 @@ use Prim.Native.Nat.{ℕ, zero, suc, _+_, _*_}
 use lib.ListN.{getD}
 use lib.Ieee.{Float}
 use Rattle.cell.specs.Cell.{pointAt}
-use Rattle.octree.specs.Bounds.{boxBetween}
-use Rattle.octree.specs.Tree.{Node}
+use Rattle.octants.specs.Bounds.{boxBetween}
+use Rattle.nodes.specs.Nodes.{Node}
 
 -- node i: its words, and the box between its two corners, with center and extent worked out again
 unfoldable pub nodeAt : List ℕ → List Float → ℕ → Node

@@ -1,4 +1,3 @@
--- The leaf report: a leaf's shell, occupancies and partition score; what Report answers and leaves; and what only inner contracts cite.
-pub mod Leaf
+-- The leaf report: the leaf table, and what Report answers and leaves; and what only inner contracts cite.
 pub mod Report
 pub mod Inner

@@ -7,13 +7,13 @@ use lib.ListN.{length, replicate}
 use lib.Ieee.{Float, binary32, mul, toBits}
 use Rattle.cell.specs.declared.Cell.{Cell}
 use Rattle.cell.specs.Cell.{volumeOf}
-use Rattle.cell.specs.Tables.{over}
+use Rattle.cell.specs.Tables.{over, unlessRefused}
 use Rattle.selection.specs.Sound.{copiesIn}
-use Rattle.octree.specs.declared.bounds.OctreeBounds.{OctreeBounds}
-use Rattle.octree.specs.Tree.{Node, deepest}
+use Rattle.octants.specs.declared.bounds.OctreeBounds.{OctreeBounds}
+use Rattle.nodes.specs.Nodes.{Node, deepest}
 use Rattle.tree.specs.Points.{treeWaters}
 use Rattle.tree.specs.Tree.{treeCallRefusal, wholeRecords, byOutcome}
-use Rattle.report.specs.Leaf.{densityOf, expanded, shellFrom, occupancyOf, occupancyWord, referenceVolume, partitionScore}
+use Rattle.leaf.specs.Leaf.{densityOf, expanded, shellFrom, occupancyOf, occupancyWord, referenceVolume, partitionScore}
 use Rattle.report.specs.declared.Reported.{Reported}
 use Rattle.report.specs.declared.Reported.the-variants.{Leaves, Refused}
 
@@ -68,12 +68,18 @@ dryLeaves (v ∷ vs) = cond (isReported v && eqb (v .waters) 0) 1 0 + dryLeaves 
 abbrev pub reportRoom : List ℕ → List Float → List ℕ → ℕ
 reportRoom records boxes leaves = min (wholeRecords records boxes) (length leaves / 8)
 
+-- Tree's refusals, with the leaf table as a third node table for 13
 unfoldable pub reportRefusal : Cell → List Float → List Float → List ℕ → List ℕ → List ℕ → List ℕ → List ℕ → List Float → List ℕ → ℕ
 unfolding treeCallRefusal
 reportRefusal c solutes waters starts picks centerOrder waterOrder records boxes leaves =
     treeCallRefusal c solutes waters starts picks centerOrder waterOrder (reportRoom records boxes leaves)
 
--- the answer's cases: its number; and nodes, greatest depth, reported leaves, dry leaves
+-- what is answered, by the refusal's number: nodes, greatest depth, reported leaves and dry leaves of the tree, or the refusal
+unfoldable pub reportAnswer : ℕ → List Node → Reported
+unfolding reportedLeaves dryLeaves
+reportAnswer r vs = unlessRefused r (Leaves (length vs) (deepest vs) (reportedLeaves vs) (dryLeaves vs)) (Refused r)
+
+-- the number and the values of each case of an answer
 abbrev pub reportNumber : Reported → ℕ
 reportNumber (Leaves n d l y) = 0
 reportNumber (Refused r) = r
@@ -81,10 +87,6 @@ reportNumber (Refused r) = r
 abbrev pub reportAnswered : Reported → List ℕ
 reportAnswered (Leaves n d l y) = n ∷ d ∷ l ∷ y ∷ []
 reportAnswered (Refused r) = []
-
-unfoldable pub reportValues : List Node → List ℕ
-unfolding reportedLeaves dryLeaves
-reportValues vs = length vs ∷ deepest vs ∷ reportedLeaves vs ∷ dryLeaves vs ∷ []
 
 -- the leaf table afterwards
 unfoldable pub leavesAfter : ℕ → Cell → List Float → List ℕ → List Node → List ℕ → List ℕ

@@ -7,21 +7,17 @@ ghost use Prim.Native.Nat.{ℕ, _+_, _*_, _^_, _≤_, _<_};
 ghost use lib.Dec.{eqb, ltb};
 ghost use lib.ListN.{length, getD, replicate};
 ghost use Rattle.cell.specs.Cell.{pointAt};
-ghost use Rattle.cell.specs.Tables.{placed, over, unlessRefused};
+ghost use Rattle.cell.specs.Tables.{placed, over};
 ghost use Rattle.selection.specs.Sound.{soundLists, copiesIn};
-ghost use Rattle.octree.specs.Bounds.{boxBetween};
+ghost use Rattle.octants.specs.Bounds.{boxBetween};
 ghost use Rattle.octree.specs.Tree.{treeRefusal};
 ghost use Rattle.tree.specs.Points.{finiteWaters};
 ghost use Rattle.tree.specs.Tree.{frameTree, centerOrderAfter, waterOrderAfter, recordsAfter, boxesAfter};
-ghost use Rattle.report.specs.Leaf.{densityOf, referenceVolume};
-ghost use Rattle.report.specs.Report.{leafWords, nodeWords, leavesFrom, reportedLeaves, dryLeaves, reportRoom, reportRefusal, reportNumber, reportAnswered, reportValues, leavesAfter};
+ghost use Rattle.report.specs.Report.{leafWords, nodeWords, leavesFrom, reportedLeaves, dryLeaves, reportRoom, reportRefusal, reportAnswer, reportNumber, leavesAfter};
 ghost use Rattle.report.specs.Inner.{nodeAt, nodesFrom};
 use cell::Cell;
+use octants::bounds::OctreeBounds;
 use octree::Built;
-use octree::bounds::OctreeBounds;
-
-// leaf.rt: shell, occupancy and partition score of a leaf
-pub mod leaf;
 
 // What Report answers: nodes, greatest depth, reported leaves and dry leaves, or a refusal by its number.
 pub enum Reported {
@@ -236,8 +232,7 @@ pub fn report_of(
     requires { ⌜ soundLists (now solutes) (now starts) (now picks) ≡ true ⌝ }
     requires { ⌜ length (now waters) ≤ 196608 ⌝ }
     requires { ⌜ (copiesIn (now starts) ≤ length (now «center_order»)) × (finiteWaters (now waters) ≤ length (now «water_order»)) ⌝ }
-    ensures number { λ r. ⌜ reportNumber r ≡ treeRefusal (reportRoom (now (records .entry)) (now (boxes .entry)) (now (leaves .entry))) (frameTree cell (now (solutes .entry)) (now (waters .entry)) (now (starts .entry)) (now (picks .entry))) ⌝ }
-    ensures values { λ r. ⌜ reportAnswered r ≡ unlessRefused (reportNumber r) (reportValues ((frameTree cell (now (solutes .entry)) (now (waters .entry)) (now (starts .entry)) (now (picks .entry))) .nodes)) [] ⌝ }
+    ensures answer { λ r. ⌜ r ≡ reportAnswer (treeRefusal (reportRoom (now (records .entry)) (now (boxes .entry)) (now (leaves .entry))) (frameTree cell (now (solutes .entry)) (now (waters .entry)) (now (starts .entry)) (now (picks .entry)))) ((frameTree cell (now (solutes .entry)) (now (waters .entry)) (now (starts .entry)) (now (picks .entry))) .nodes) ⌝ }
     ensures order { λ r. ⌜ now («center_order» .exit) ≡ centerOrderAfter (reportNumber r) (frameTree cell (now (solutes .entry)) (now (waters .entry)) (now (starts .entry)) (now (picks .entry))) (copiesIn (now (starts .entry))) (now («center_order» .entry)) ⌝ }
     ensures water { λ r. ⌜ now («water_order» .exit) ≡ waterOrderAfter (reportNumber r) (frameTree cell (now (solutes .entry)) (now (waters .entry)) (now (starts .entry)) (now (picks .entry))) (finiteWaters (now (waters .entry))) (now («water_order» .entry)) ⌝ }
     ensures table { λ r. ⌜ now (records .exit) ≡ recordsAfter (reportNumber r) (frameTree cell (now (solutes .entry)) (now (waters .entry)) (now (starts .entry)) (now (picks .entry))) (now (records .entry)) ⌝ }
@@ -292,8 +287,7 @@ pub fn report(
     boxes: &mut [f32],
     leaves: &mut [u32],
 ) -> Reported
-    ensures number { λ r. ⌜ reportNumber r ≡ reportRefusal cell (now (solutes .entry)) (now (waters .entry)) (now (starts .entry)) (now (picks .entry)) (now («center_order» .entry)) (now («water_order» .entry)) (now (records .entry)) (now (boxes .entry)) (now (leaves .entry)) ⌝ }
-    ensures values { λ r. ⌜ reportAnswered r ≡ unlessRefused (reportNumber r) (reportValues ((frameTree cell (now (solutes .entry)) (now (waters .entry)) (now (starts .entry)) (now (picks .entry))) .nodes)) [] ⌝ }
+    ensures answer { λ r. ⌜ r ≡ reportAnswer (reportRefusal cell (now (solutes .entry)) (now (waters .entry)) (now (starts .entry)) (now (picks .entry)) (now («center_order» .entry)) (now («water_order» .entry)) (now (records .entry)) (now (boxes .entry)) (now (leaves .entry))) ((frameTree cell (now (solutes .entry)) (now (waters .entry)) (now (starts .entry)) (now (picks .entry))) .nodes) ⌝ }
     ensures order { λ r. ⌜ now («center_order» .exit) ≡ centerOrderAfter (reportNumber r) (frameTree cell (now (solutes .entry)) (now (waters .entry)) (now (starts .entry)) (now (picks .entry))) (copiesIn (now (starts .entry))) (now («center_order» .entry)) ⌝ }
     ensures water { λ r. ⌜ now («water_order» .exit) ≡ waterOrderAfter (reportNumber r) (frameTree cell (now (solutes .entry)) (now (waters .entry)) (now (starts .entry)) (now (picks .entry))) (finiteWaters (now (waters .entry))) (now («water_order» .entry)) ⌝ }
     ensures table { λ r. ⌜ now (records .exit) ≡ recordsAfter (reportNumber r) (frameTree cell (now (solutes .entry)) (now (waters .entry)) (now (starts .entry)) (now (picks .entry))) (now (records .entry)) ⌝ }

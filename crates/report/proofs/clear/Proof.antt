@@ -3,7 +3,7 @@ use mathlib.Core.Path.{_≡_, refl}
 use Prim.Native.Nat.{_-_, _≤_}
 use borrow.Author.Needs.{needs}
 use lib.ListN.{length, take, replicate, length-set}
-use Rattle.octree.proofs.Filling.{written, all-written, replicate-more}
+use Rattle.nodes.proofs.Filling.{written, all-written, replicate-more}
 use Rattle.report.proofs.clear.Statement.{statement}
 use Rattle.report.proofs.clear.Tie as tie
 

@@ -5,8 +5,8 @@ use Prim.Native.Nat.{ℕ, _+_, _*_}
 use native.Mathlib.Omega.{arith}
 use borrow.Author.Needs.{needs}
 use lib.ListN.{getD}
-use Rattle.octree.specs.declared.bounds.OctreeBounds.{OctreeBounds}
-use Rattle.octree.proofs.Placing.{placed-part}
+use Rattle.octants.specs.declared.bounds.OctreeBounds.{OctreeBounds}
+use Rattle.nodes.proofs.Placing.{placed-part}
 use Rattle.report.specs.Report.{leafWords}
 use Rattle.report.specs.Inner.{nodeAt}
 use Rattle.report.proofs.put_leaf.Statement.{statement}

@@ -4,8 +4,8 @@ use Prim.Native.Nat.{ℕ}
 use borrow.Author.Needs.{needs}
 use lib.Ieee.{Float, binary32, mul, toBits}
 use Rattle.cell.specs.Cell.{volumeOf}
-use Rattle.octree.proofs.Placing.{eight}
-use Rattle.report.specs.Leaf.{occupancyOf, occupancyWord, partitionScore}
+use Rattle.nodes.proofs.Placing.{eight}
+use Rattle.leaf.specs.Leaf.{occupancyOf, occupancyWord, partitionScore}
 use Rattle.report.specs.Report.{leafWords}
 use Rattle.report.proofs.put_row.Statement.{statement}
 use Rattle.report.proofs.put_row.Tie as tie

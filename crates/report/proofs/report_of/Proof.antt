@@ -1,6 +1,6 @@
 -- `report::report_of` meets its contract: the builder's answer is over the frame's tree (`answered`); the nodes read back are the tree's own,
 -- so the leaf table is that of the tree; at 13 it is cleared. Assumes nothing.
-use mathlib.Core.Path.{refl, ap, ap₂, _∙_}
+use mathlib.Core.Path.{_≡_, refl, ap, ap₂, _∙_}
 use mathlib.Core.List.{List}
 use Prim.Native.Nat.{ℕ, _*_, _≤_}
 use native.Mathlib.Omega.{arith}
@@ -10,22 +10,30 @@ use lib.Ieee.{Float}
 use Rattle.cell.specs.Tables.{over}
 use Rattle.selection.specs.Sound.{copiesIn}
 use Rattle.selection.proofs.SoundLists.{sound-lists}
-use Rattle.octree.specs.Tree.{Subtrees}
+use Rattle.octree.specs.declared.Built.the-variants.{Nodes, Full}
+use Rattle.nodes.specs.Nodes.{deepest}
+use Rattle.octree.specs.Tree.{Subtrees, treeRefusal}
+use Rattle.octree.proofs.Answering.{built-told}
 use Rattle.tree.specs.Points.{finiteWaters}
 use Rattle.tree.specs.Tree.{frameTree, treeOn}
 use Rattle.tree.proofs.WaterList.{waters-length, waters-few}
-use Rattle.tree.proofs.Outcomes.{Answers, answers-same, over-waters}
+use Rattle.tree.proofs.Outcomes.{Leaves, Answers, answers-same, over-waters}
 use Rattle.report.specs.Report.{leavesFrom, reportedLeaves, dryLeaves, reportRoom}
-use Rattle.report.proofs.ReportOutcomes.{table-over, room-fits, counted, nodes-read, nodes-small, words-small, leaves-cleared, leaves-filled, values-are}
+use Rattle.report.proofs.ReportOutcomes.{table-over, room-fits, nodes-read, nodes-small, words-small, leaves-cleared, leaves-filled, answer-leaves, answer-refused}
 use Rattle.report.proofs.report_of.Statement.{statement}
 use Rattle.report.proofs.report_of.Tie as tie
+
+-- the frame's tree, and the records that the lent tables have room for
+abbrev inFrame : tie.Start → Subtrees
+inFrame st = frameTree (st .args .cell) (st .args .solutes .now) (st .args .waters .now) (st .args .starts .now) (st .args .picks .now)
+
+abbrev room : tie.Start → ℕ
+room st = reportRoom (st .args .records .now) (st .args .boxes .now) (st .args .leaves .now)
 
 -- what the builder answered, over the frame's tree
 answered :
     (c : tie.After-tree-of) → let st = c .before .before .before .before .before .before .before .before .before .before .before .before .before .before .before .before .before .before in
-    Answers (c .tree-of .result) (reportRoom (st .args .records .now) (st .args .boxes .now) (st .args .leaves .now))
-    (frameTree (st .args .cell) (st .args .solutes .now) (st .args .waters .now) (st .args .starts .now) (st .args .picks .now))
-    (copiesIn (st .args .starts .now)) (finiteWaters (st .args .waters .now))
+    Answers (c .tree-of .result) (room st) (inFrame st) (copiesIn (st .args .starts .now)) (finiteWaters (st .args .waters .now))
     (st .args .center-order .now) (c .tree-of .last .1 .1 .1 .1 .1 .1 .0) (st .args .water-order .now) (c .tree-of .last .1 .1 .1 .1 .1 .1 .1 .0)
     (st .args .records .now) (c .tree-of .last .1 .1 .1 .1 .1 .1 .1 .1 .0) (st .args .boxes .now) (c .tree-of .last .1 .1 .1 .1 .1 .1 .1 .1 .1 .0)
 answered c =
@@ -35,12 +43,12 @@ answered c =
     let same = ap₂ tree (put .ensures .1) (put .ensures .0) ∙ over-waters (st .args .cell) (st .args .solutes .now) (st .args .waters .now) (st .args .starts .now) (st .args .picks .now) _ in
     answers-same
     (c .tree-of .result)
-    (reportRoom (st .args .records .now) (st .args .boxes .now) (st .args .leaves .now))
+    (room st)
     (copiesIn (st .args .starts .now))
     (put .result)
     (finiteWaters (st .args .waters .now))
     (tree (put .last .1 .1 .0) (put .result))
-    (frameTree (st .args .cell) (st .args .solutes .now) (st .args .waters .now) (st .args .starts .now) (st .args .picks .now))
+    (inFrame st)
     (st .args .center-order .now)
     (c .tree-of .last .1 .1 .1 .1 .1 .1 .0)
     (st .args .water-order .now)
@@ -52,6 +60,21 @@ answered c =
     same
     (put .ensures .0)
     (c .tree-of .ensures)
+
+-- where it counted nodes: nothing is refused, they are the tree's, and the tables hold them
+counted :
+    (c : tie.After-n) → let st = c .before .before .before .before .before .before .before .before .before .before .before .before .before .before .before .before .before .before .before .before .before .before .before .before .before .before .before .before in
+    let made = c .before .before .before .before .before .before .before .before .before .before .tree-of in
+    ((0 ≡ treeRefusal (room st) (inFrame st)) × ((c .n .given .0 .0 ≡ length (inFrame st .nodes)) × (c .n .given .0 .1 .0 ≡ deepest (inFrame st .nodes))))
+    × Leaves 0 (inFrame st) (copiesIn (st .args .starts .now)) (finiteWaters (st .args .waters .now))
+    (st .args .center-order .now) (made .last .1 .1 .1 .1 .1 .1 .0) (st .args .water-order .now) (made .last .1 .1 .1 .1 .1 .1 .1 .0)
+    (st .args .records .now) (made .last .1 .1 .1 .1 .1 .1 .1 .1 .0) (st .args .boxes .now) (made .last .1 .1 .1 .1 .1 .1 .1 .1 .1 .0)
+counted c =
+    let st = c .before .before .before .before .before .before .before .before .before .before .before .before .before .before .before .before .before .before .before .before .before .before .before .before .before .before .before .before in
+    let nodes = c .n .given in
+    let got = rw (nodes .1) at (answered (c .before .before .before .before .before .before .before .before .before .before)) in
+    let told = built-told (inFrame st) (room st) (Nodes (nodes .0 .0) (nodes .0 .1 .0)) (got .0) in
+    ((told .0, told .1 (nodes .0 .0) (nodes .0 .1 .0) refl), got .1)
 
 -- the waters written are few, and stand within the local array
 few-waters : (c : tie.After-put-waters) → (c .put-waters .result ≤ 65536) × (c .put-waters .result * 3 ≤ length (c .put-waters .last .1 .1 .0))
@@ -106,28 +129,13 @@ same-length-5 c = search needs
 returns : tie.Need-returns
 returns c =
     let st = c .before .before .before .before .before .before .before .before .before .before .before .before .before .before .before .before .before .before .before .before .before .before .before .before .before .before .before .before .before .before .before .before in
-    let got = rw (c .before .before .before .before .enum-told .given .1) at (answered (c .before .before .before .before .before .before .before .before .before .before .before .before .before .before)) in (
-      got .0,
-      (
-        refl,
-        (
-          got .1 .1 .0,
-          (
-            got .1 .1 .1 .0,
-            (
-              got .1 .1 .1 .1 .0,
-              (
-                got .1 .1 .1 .1 .1,
-                c .before .before .clear .ensures ∙ leaves-cleared (st .args .cell) (st .args .waters .now) (st .args .starts .now) ((frameTree (st .args .cell) (st .args .solutes .now) (st .args .waters .now) (st .args .starts .now) (st .args .picks .now)) .nodes) (st .args .leaves .now),
-              ),
-            ),
-          ),
-        ),
-      ),
-    )
+    let got = rw (c .before .before .before .before .enum-told .given .1) at (answered (c .before .before .before .before .before .before .before .before .before .before .before .before .before .before)) in
+    let thirteen = built-told (inFrame st) (room st) Full (got .0) .0 in
+    let cleared = c .before .before .clear .ensures ∙ leaves-cleared (st .args .cell) (st .args .waters .now) (st .args .starts .now) (inFrame st .nodes) (st .args .leaves .now) in
+    (answer-refused 13 _ (inFrame st .nodes) (λ h. omega arith) thirteen, (got .1 .0, (got .1 .1 .0, (got .1 .1 .1 .0, (got .1 .1 .1 .1, cleared)))))
 
 density-requires : tie.Need-density-requires
-density-requires c κs = few-waters (c .before .before .before .before .before .before .before .before .before .before .before .before .before .before .before .before .before .before) .0
+density-requires c κs = let put = c .before .before .before .before .before .before .before .before .before .before .before .before .before .before .before .before .before .before in omega (arith, few-waters put .0, put .before .before .before .before .before .before .before .before .before .before .before .pre .1 .0)
 
 sub-reference-volume : tie.Need-sub-reference-volume
 sub-reference-volume c =
@@ -143,16 +151,15 @@ slice-aggregate-put-leaves c = search needs
 put-leaves-requires : tie.Need-put-leaves-requires
 put-leaves-requires c κs =
     let st = c .before .before .before .before .before .before .before .before .before .before .before .before .before .before .before .before .before .before .before .before .before .before .before .before .before .before .before .before .before .before .before .before .before .before .before in
-    let built = c .before .before .before .before .before .before .before .before .before .before .before .before .before .before .before .before .before in
-    let nodes = c .before .before .before .before .before .before .before .n .given in
-    let got = rw (nodes .1) at (answered built) in
+    let got = counted (c .before .before .before .before .before .before .before) in
     let few = few-waters (c .before .before .before .before .before .before .before .before .before .before .before .before .before .before .before .before .before .before .before .before .before .before .before .before) in
-    let count = counted (st .args .cell) (st .args .solutes .now) (st .args .waters .now) (st .args .starts .now) (st .args .picks .now) (nodes .0 .0) (nodes .0 .1 .0) (got .1 .0) .0 in
-    let room = room-fits (st .args .cell) (st .args .solutes .now) (st .args .waters .now) (st .args .starts .now) (st .args .picks .now) (reportRoom (st .args .records .now) (st .args .boxes .now) (st .args .leaves .now)) (got .0) in
+    let count = got .0 .1 .0 in
+    let fits = room-fits (st .args .cell) (st .args .solutes .now) (st .args .waters .now) (st .args .starts .now) (st .args .picks .now) (room st) (got .0 .0) in
     let small = nodes-small (st .args .cell) (st .args .solutes .now) (st .args .waters .now) (st .args .starts .now) (st .args .picks .now) (st .pre .0) (st .pre .1 .0) in
-    let words = words-small (st .args .cell) (st .args .solutes .now) (st .args .waters .now) (st .args .starts .now) (st .args .picks .now) (st .pre .0) (st .pre .1 .0) (st .args .records .now) (built .tree-of .last .1 .1 .1 .1 .1 .1 .1 .1 .0) (got .1 .1 .1 .1 .0) in
-    let size-r = built .tree-of .kept .1 .1 .1 .1 .1 .1 .1 .1 .0 in
-    let size-b = built .tree-of .kept .1 .1 .1 .1 .1 .1 .1 .1 .1 .0 in
+    let words = words-small (st .args .cell) (st .args .solutes .now) (st .args .waters .now) (st .args .starts .now) (st .args .picks .now) (st .pre .0) (st .pre .1 .0) (st .args .records .now) _ (got .1 .1 .1 .0) in
+    let made = c .before .before .before .before .before .before .before .before .before .before .before .before .before .before .before .before .before .tree-of in
+    let size-r = made .kept .1 .1 .1 .1 .1 .1 .1 .1 .0 in
+    let size-b = made .kept .1 .1 .1 .1 .1 .1 .1 .1 .1 .0 in
     ((few .1, few .0), ((omega arith, omega arith, omega arith, omega arith), λ k h. words k (omega (arith, h, count))))
 
 same-length-6 : tie.Need-same-length-6
@@ -173,38 +180,18 @@ same-length-10 c = search needs
 returns-2 : tie.Need-returns-2
 returns-2 c =
     let st = c .before .before .before .before .before .before .before .before .before .before .before .before .before .before .before .before .before .before .before .before .before .before .before .before .before .before .before .before .before .before .before .before .before .before .before .before .before .before in
-    let built = c .before .before .before .before .before .before .before .before .before .before .before .before .before .before .before .before .before .before .before .before in
     let put = c .before .before .before .before .before .before .before .before .before .before .before .before .before .before .before .before .before .before .before .before .before .before .before .before .before .before .before .put-waters in
     let nodes = c .before .before .before .before .before .before .before .before .before .before .n .given in
-    let got = rw (nodes .1) at (answered built) in
+    let got = counted (c .before .before .before .before .before .before .before .before .before .before) in
+    let count = got .0 .1 in
     let leaves = c .before .before .put-leaves .ensures in
-    let vs = (frameTree (st .args .cell) (st .args .solutes .now) (st .args .waters .now) (st .args .starts .now) (st .args .picks .now)) .nodes in
-    let count = counted (st .args .cell) (st .args .solutes .now) (st .args .waters .now) (st .args .starts .now) (st .args .picks .now) (nodes .0 .0) (nodes .0 .1 .0) (got .1 .0) in
-    let read =
-    nodes-read (st .args .cell) (st .args .solutes .now) (st .args .waters .now) (st .args .starts .now) (st .args .picks .now) (nodes .0 .0)
-    (st .args .records .now) (built .tree-of .last .1 .1 .1 .1 .1 .1 .1 .1 .0) (st .args .boxes .now) (built .tree-of .last .1 .1 .1 .1 .1 .1 .1 .1 .1 .0)
-    (count .0) (got .1 .1 .1 .1 .0) (got .1 .1 .1 .1 .1) in
-    let table = table-over (st .args .cell) (st .args .solutes .now) (st .args .waters .now) (st .args .starts .now) (st .args .picks .now) _ _ _ _ (put .result) (c .before .before .before .before .before .before .before .before .density .ensures) (c .before .before .before .before .before .before .before .reference-volume .ensures) (put .ensures .1) (put .ensures .0) vs in
-    let values = values-are (nodes .0 .0) (nodes .0 .1 .0) _ _ vs (count .0) (count .1) (leaves .0 ∙ ap reportedLeaves read) (leaves .1 .0 ∙ ap dryLeaves read) in
-    let filled = leaves .1 .1 ∙ ap (λ (l : List ℕ). over l (st .args .leaves .now)) (ap (leavesFrom (st .args .cell) _ _ _ (put .result) 0) read ∙ table) in (
-      got .0,
-      (
-        values,
-        (
-          got .1 .1 .0,
-          (
-            got .1 .1 .1 .0,
-            (
-              got .1 .1 .1 .1 .0,
-              (
-                got .1 .1 .1 .1 .1,
-                filled ∙ leaves-filled (st .args .cell) (st .args .waters .now) (st .args .starts .now) vs (st .args .leaves .now),
-              ),
-            ),
-          ),
-        ),
-      ),
-    )
+    let read = nodes-read (st .args .cell) (st .args .solutes .now) (st .args .waters .now) (st .args .starts .now) (st .args .picks .now) (nodes .0 .0) (st .args .records .now) _ (st .args .boxes .now) _ (count .0) (got .1 .1 .1 .0) (got .1 .1 .1 .1) in
+    let table = table-over (st .args .cell) (st .args .solutes .now) (st .args .waters .now) (st .args .starts .now) (st .args .picks .now) _ _ _ _ (put .result) (c .before .before .before .before .before .before .before .before .density .ensures) (c .before .before .before .before .before .before .before .reference-volume .ensures) (put .ensures .1) (put .ensures .0) (inFrame st .nodes) in
+    let filled =
+    leaves .1 .1 ∙ ap (λ (l : List ℕ). over l (st .args .leaves .now)) (ap (leavesFrom (st .args .cell) _ _ _ (put .result) 0) read ∙ table)
+    ∙ leaves-filled (st .args .cell) (st .args .waters .now) (st .args .starts .now) (inFrame st .nodes) (st .args .leaves .now) in
+    let answer = answer-leaves _ (nodes .0 .0) (nodes .0 .1 .0) _ _ (inFrame st .nodes) (got .0 .0) (count .0) (count .1) (leaves .0 ∙ ap reportedLeaves read) (leaves .1 .0 ∙ ap dryLeaves read) in
+    (answer, (got .1 .0, (got .1 .1 .0, (got .1 .1 .1 .0, (got .1 .1 .1 .1, filled)))))
 
 pub report-of-spec : {M : Type 1} → statement M
 report-of-spec =

@@ -1,0 +1,15 @@
+-- `leaf::larger` meets its contract: each arm is a case of the definition. Assumes nothing.
+use Rattle.leaf.specs.Leaf.{larger}
+use Rattle.leaf.proofs.larger.Statement.{statement}
+use Rattle.leaf.proofs.larger.Tie as tie
+
+returns : tie.Need-returns
+unfolding larger
+returns c = rw (c .if1 .taken)
+
+returns-2 : tie.Need-returns-2
+unfolding larger
+returns-2 c = rw (c .if1 .left)
+
+pub larger-spec : {M : Type 1} → statement M
+larger-spec = tie.close (tie.spec returns returns-2)

@@ -1,0 +1,63 @@
+-- `leaf::shell_waters` meets its contract. The loop's invariant (`Seeing`): of the waters before i, n are in the shell.
+-- Measure: m - i. Assumes nothing.
+use mathlib.Core.Path.{sym, ap, _∙_}
+use mathlib.Core.Logic.{⊎-elim}
+use Prim.Native.Nat.{_-_}
+use borrow.Author.Needs.{needs}
+use Rattle.leaf.specs.Leaf.{inShell}
+use Rattle.leaf.proofs.ShellCount.{Seeing, seeing-first, seeing-in, seeing-out, seeing-last}
+use Rattle.leaf.proofs.shell_waters.Statement.{statement}
+use Rattle.leaf.proofs.shell_waters.Tie as tie
+
+abbrev Inv-loop : tie.InvT-loop
+Inv-loop cell b waters m n₀ i₀ n i = Seeing cell b waters m i n
+
+abbrev μ-loop : tie.MeasureT-loop
+μ-loop cell b waters m n₀ i₀ n i = m - i
+
+loop-holds : tie.Need-loop-holds Inv-loop μ-loop
+loop-holds c = seeing-first
+
+point-requires : tie.Need-point-requires Inv-loop μ-loop
+point-requires c κs = search needs
+
+in-shell-requires : tie.Need-in-shell-requires Inv-loop μ-loop
+in-shell-requires c κs = search needs
+
+add-n : tie.Need-add-n Inv-loop μ-loop
+add-n c = search needs
+
+add-i : tie.Need-add-i Inv-loop μ-loop
+add-i c = search needs
+
+loop-less : tie.Need-loop-less Inv-loop μ-loop
+loop-less c = search needs
+
+loop-again : tie.Need-loop-again Inv-loop μ-loop
+loop-again c =
+    let at = c .before .before .before .before in
+    let less = c .before .before .before .loop-test .taken in
+    let p = c .before .before .point .ensures in
+    let test = ap (inShell _ _) (sym p) ∙ sym (c .before .in-shell .ensures) in
+    ⊎-elim
+    (λ w. rw (w .1) (seeing-in less (test ∙ w .0 .taken) (at .loop .inv)))
+    (λ w. rw (w .1) (seeing-out less (test ∙ w .0 .left) (at .loop .inv)))
+    (c .if1 .came)
+
+returns : tie.Need-returns Inv-loop μ-loop
+returns c = seeing-last (c .loop-test .left) (c .before .loop .inv)
+
+pub shell-waters-spec : {M : Type 1} → statement M
+shell-waters-spec =
+    tie.close
+    (tie.spec
+    Inv-loop
+    μ-loop
+    loop-holds
+    point-requires
+    in-shell-requires
+    add-n
+    add-i
+    loop-less
+    loop-again
+    returns)
