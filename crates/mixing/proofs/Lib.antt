@@ -5,5 +5,7 @@ pub mod Outcomes
 pub mod Cores
 -- what the tests establish for the cores, and what these leave
 pub mod Tested
--- the leaf table holds every leaf that an answer counts
-pub mod Leaves
+-- a frame with an answer has passed every test, and the leaf table holds every leaf that the answer counts
+pub mod Answered
+-- the frame's answers are those of the calls that it stands for
+pub mod Calls

@@ -1,23 +1,33 @@
 -- What the whole frame answers and leaves, test by test. Assumes nothing.
-use mathlib.Core.Path.{_≡_, refl, sym, ap, _∙_}
+use mathlib.Core.Path.{_≡_, refl, sym, _∙_}
 use mathlib.Core.Bool.{Bool, true, false, cond}
 use mathlib.Core.List.{List, []}
-use Prim.Native.Nat.{ℕ, _≤_, _<_}
+use Prim.Native.Nat.{ℕ}
 use native.Mathlib.Omega.{arith}
-use lib.Dec.{eqb, ltb}
+use lib.Dec.{ltb}
 use lib.ListN.{length}
-use borrow.Author.Tests.{eq-eqb, ne-eqb, lt-ltb, le-ltb}
+use borrow.Author.Tests.{eq-eqb, ne-eqb}
 use Rattle.cell.specs.Refusals.{Refusal, firstRefusal}
-use Rattle.cell.specs.Tables.{unlessRefused}
-use Rattle.cell.proofs.FirstRefusal.{append-hit, append-skip}
+use Rattle.cell.specs.Limits.{limitRefusals, lengths, counts, bounds, coordinates}
+use Rattle.cell.proofs.FirstRefusal.{numbered, append-hit, append-skip}
 use Rattle.cell.proofs.FrameRefusals.{limit-numbered}
+use Rattle.cell.proofs.Tables.{at-refusal}
 use Rattle.octree.specs.Tree.{treeRefusal}
 use Rattle.tree.specs.Tree.{byOutcome, roomRefusal}
-use Rattle.cell.specs.Limits.{limitRefusals, lengths, counts, bounds, coordinates}
-use Rattle.cell.proofs.Tables.{at-refusal}
 use Rattle.tree.proofs.TreeRefusals.{without, first-without}
 use Rattle.report.specs.Report.{reportRoom}
-use Rattle.mixing.specs.Frame.{Frame, Tables, Outcome, kept, pickNumbers, treeIn, short, tableRefusals, limited, blankHolds, frameRefusal, frameBlank, refused, blankOutcome, mixedOutcome, frameOutcome, worked, tablesAfter}
+use Rattle.mixing.specs.declared.FrameAnswer.the-variants.{Refused, Blank}
+use Rattle.mixing.specs.Frame.{Frame, Tables, treeIn, sizeRefusals, sized, tableRefusals, limited, blankHolds, frameRefusal, frameBlank, refusedOr, mixedAnswer, frameAnswer, worked, tablesAfter}
+
+-- what Report refuses over the frame's pick lists: 13 or nothing
+abbrev pub roomNumber : Frame → Tables → ℕ
+roomNumber f t = treeRefusal (reportRoom (t .records) (t .boxes) (t .leaves)) (treeIn f)
+
+-- a frame that is not blank and passes every test but 13
+pub record Passed (f : Frame) (t : Tables) : Type 0 where
+  pub within : firstRefusal (limited f) ≡ 0
+  pub some : blankHolds f ≡ false
+  pub fits : firstRefusal (sized f t) ≡ 0
 
 module _ (f : Frame) (t : Tables) where
   -- ---- the number
@@ -32,74 +42,77 @@ module _ (f : Frame) (t : Tables) where
   unfolding frameRefusal limited rest
   number-rest e = append-skip (limited f) rest (limit-numbered (f .cell) (f .solutes) (f .waters) (f .indices)) e
 
-  -- ---- no test but 13 lets a table change
+  -- ---- what a refusal other than 13 answers and leaves, where the frame is not blank
   same-tables : (r : ℕ) → (r ≡ 0 → ⊥) → (r ≡ 13 → ⊥) → byOutcome r (worked 0 f t) (worked 13 f t) t ≡ t
   same-tables r a b = rw (ne-eqb r 0 a, ne-eqb r 13 b)
 
-  -- ---- what a refusal other than 13 answers and leaves, where the frame is not blank
-  answers : frameBlank f ≡ false → (r : ℕ) → frameRefusal f t ≡ r → (r ≡ 0 → ⊥) → (r ≡ 13 → ⊥) → (refused r ≡ frameOutcome f t) × (t ≡ tablesAfter f t)
-  unfolding frameOutcome tablesAfter
-  answers b r e n m = rw (b, e) (sym (at-refusal r _ (refused r) n), sym (same-tables r n m))
+  answers : frameBlank f ≡ false → (r : ℕ) → frameRefusal f t ≡ r → (r ≡ 0 → ⊥) → (r ≡ 13 → ⊥) → (Refused r ≡ frameAnswer f t) × (t ≡ tablesAfter f t)
+  unfolding frameAnswer tablesAfter
+  answers b r e n m = rw (b, e) (sym (at-refusal r _ (Refused r) n), sym (same-tables r n m))
 
   -- ---- 1, 2, 3, 4
-  never-13 : firstRefusal (limited f) ≡ 13 → ⊥
+  limit-not-13 : firstRefusal (limited f) ≡ 13 → ⊥
   unfolding limited without limitRefusals lengths counts bounds coordinates
-  never-13 e = first-without 13 (limited f) refl (λ z. omega arith) e
+  limit-not-13 e = first-without 13 (limited f) refl (λ z. omega arith) e
 
   not-blank : (firstRefusal (limited f) ≡ 0 → ⊥) → frameBlank f ≡ false
   unfolding frameBlank
   not-blank n = rw (ne-eqb (firstRefusal (limited f)) 0 n)
 
-  pub outcome-limit : (r : ℕ) → r ≡ firstRefusal (limited f) → (r ≡ 0 → ⊥) → (refused r ≡ frameOutcome f t) × (t ≡ tablesAfter f t)
-  outcome-limit r e n = answers (not-blank (λ z. n (e ∙ z))) r (number-limit (λ z. n (e ∙ z)) ∙ sym e) n (λ z. never-13 (sym e ∙ z))
+  pub outcome-limit : (r : ℕ) → r ≡ firstRefusal (limited f) → (r ≡ 0 → ⊥) → (Refused r ≡ frameAnswer f t) × (t ≡ tablesAfter f t)
+  outcome-limit r e n = answers (not-blank (λ z. n (e ∙ z))) r (number-limit (λ z. n (e ∙ z)) ∙ sym e) n (λ z. limit-not-13 (sym e ∙ z))
 
-  -- ---- nothing of these holds: r is 0
+  -- ---- none of these holds
   module _ (within : firstRefusal (limited f) ≡ 0) where
     pub blank-is : frameBlank f ≡ blankHolds f
     unfolding frameBlank
     blank-is = rw (eq-eqb (firstRefusal (limited f)) 0 within)
 
-    pub outcome-blank : blankHolds f ≡ true → (blankOutcome ≡ frameOutcome f t) × (t ≡ tablesAfter f t)
-    unfolding frameOutcome tablesAfter
+    pub outcome-blank : blankHolds f ≡ true → (Blank ≡ frameAnswer f t) × (t ≡ tablesAfter f t)
+    unfolding frameAnswer tablesAfter
     outcome-blank e = rw (blank-is, e) (refl, refl)
 
+    -- ---- 5, 6, 7
     module _ (some : blankHolds f ≡ false) where
-      pub chain : frameRefusal f t
-          ≡ cond (ltb 4096 (length (kept f))) 5
-          (cond (ltb 65536 (length (pickNumbers f))) 6
-          (cond (short f t) 7 (treeRefusal (reportRoom (t .records) (t .boxes) (t .leaves)) (treeIn f))))
-      unfolding rest tableRefusals roomRefusal firstRefusal
-      chain = number-rest within ∙ rw some
+      number-tables : frameRefusal f t ≡ firstRefusal (tableRefusals f t)
+      unfolding rest
+      number-tables = number-rest within ∙ rw some
 
-      by-tables : (r : ℕ) → frameRefusal f t ≡ r → (r ≡ 0 → ⊥) → (r ≡ 13 → ⊥) → (refused r ≡ frameOutcome f t) × (t ≡ tablesAfter f t)
-      by-tables r e n m = answers (blank-is ∙ some) r e n m
+      size-numbered : numbered (sized f t) ≡ true
+      unfolding numbered sized sizeRefusals
+      size-numbered = refl
 
-      pub outcome-5 : 4096 < length (kept f) → (refused 5 ≡ frameOutcome f t) × (t ≡ tablesAfter f t)
-      outcome-5 h = by-tables 5 (chain ∙ rw (lt-ltb 4096 (length (kept f)) h)) (λ z. omega arith) (λ z. omega arith)
+      size-not-13 : firstRefusal (sized f t) ≡ 13 → ⊥
+      unfolding without sized sizeRefusals
+      size-not-13 e = first-without 13 (sized f t) refl (λ z. omega arith) e
 
-      module _ (few : length (kept f) ≤ 4096) where
-        pub outcome-6 : 65536 < length (pickNumbers f) → (refused 6 ≡ frameOutcome f t) × (t ≡ tablesAfter f t)
-        outcome-6 h =
-            by-tables 6 (chain ∙ rw (le-ltb 4096 (length (kept f)) few, lt-ltb 65536 (length (pickNumbers f)) h)) (λ z. omega arith) (λ z. omega arith)
+      pub number-size : (firstRefusal (sized f t) ≡ 0 → ⊥) → frameRefusal f t ≡ firstRefusal (sized f t)
+      unfolding tableRefusals
+      number-size n = number-tables ∙ append-hit (sized f t) _ size-numbered n
 
-        module _ (light : length (pickNumbers f) ≤ 65536) where
-          pub outcome-7 : short f t ≡ true → (refused 7 ≡ frameOutcome f t) × (t ≡ tablesAfter f t)
-          outcome-7 h =
-              by-tables 7 (chain ∙ rw (le-ltb 4096 (length (kept f)) few, le-ltb 65536 (length (pickNumbers f)) light, h)) (λ z. omega arith) (λ z. omega arith)
+      pub number-room : firstRefusal (sized f t) ≡ 0 → frameRefusal f t ≡ roomNumber f t
+      unfolding tableRefusals roomRefusal firstRefusal
+      number-room e = number-tables ∙ append-skip (sized f t) _ size-numbered e
 
-          -- what is left is Report's answer, 13 or none
-          module _ (room : short f t ≡ false) (r : ℕ) (answered : r ≡ treeRefusal (reportRoom (t .records) (t .boxes) (t .leaves)) (treeIn f)) where
-            number-is : frameRefusal f t ≡ r
-            number-is = chain ∙ rw (le-ltb 4096 (length (kept f)) few, le-ltb 65536 (length (pickNumbers f)) light, room) (sym answered)
+      pub outcome-size : (r : ℕ) → r ≡ firstRefusal (sized f t) → (r ≡ 0 → ⊥) → (Refused r ≡ frameAnswer f t) × (t ≡ tablesAfter f t)
+      outcome-size r e n = answers (blank-is ∙ some) r (number-size (λ z. n (e ∙ z)) ∙ sym e) n (λ z. size-not-13 (sym e ∙ z))
 
-            pub outcome-worked : frameOutcome f t ≡ unlessRefused r (mixedOutcome f t) (refused r)
-            unfolding frameOutcome
-            outcome-worked = rw (blank-is, some, number-is)
+  -- ---- what is left is Report's answer, 13 or none
+  module _ (p : Passed f t) where
+    not-blank-is : frameBlank f ≡ false
+    not-blank-is = blank-is (p .within) ∙ p .some
 
-            pub tables-worked : tablesAfter f t ≡ worked r f t
-            unfolding tablesAfter
-            tables-worked = rw (blank-is, some, number-is) (by-room (ltb (reportRoom (t .records) (t .boxes) (t .leaves)) (length (treeIn f .nodes))) r answered)
-              where
-                by-room : (b : Bool) (m : ℕ) → m ≡ cond b 13 0 → byOutcome m (worked 0 f t) (worked 13 f t) t ≡ worked m f t
-                by-room true m e = rw e
-                by-room false m e = rw e
+    number-is : frameRefusal f t ≡ roomNumber f t
+    number-is = number-room (p .within) (p .some) (p .fits)
+
+    pub answer-worked : refusedOr (roomNumber f t) (mixedAnswer f t) ≡ frameAnswer f t
+    unfolding frameAnswer
+    answer-worked = rw (not-blank-is, number-is)
+
+    pub tables-worked : worked (roomNumber f t) f t ≡ tablesAfter f t
+    unfolding tablesAfter
+    tables-worked = rw (not-blank-is, number-is) (by-room (ltb (reportRoom (t .records) (t .boxes) (t .leaves)) (length (treeIn f .nodes))))
+      where
+        by-room : (b : Bool) → worked (cond b 13 0) f t ≡ byOutcome (cond b 13 0) (worked 0 f t) (worked 13 f t) t
+        by-room true = refl
+        by-room false = refl

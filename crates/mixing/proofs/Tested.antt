@@ -3,115 +3,133 @@ use mathlib.Core.Path.{_≡_, sym, ap, _∙_}
 use mathlib.Core.Bool.{true, false, not, _||_}
 use mathlib.Core.List.{List, [], _∷_}
 use Prim.Native.Nat.{ℕ, _+_, _≤_}
+use native.Mathlib.Omega.{arith}
 use lib.Dec.{ltb}
 use lib.ListN.{length, take, drop}
 use lib.Seq.{take-at, take-append-seam}
-use lib.Ieee.{Float}
 use borrow.Author.Tests.{ltb-false, not-false}
 use Rattle.cell.specs.Cell.{valid}
-use Rattle.cell.specs.Refusals.{firstRefusal}
+use Rattle.cell.specs.Refusals.{refuse, firstRefusal}
 use Rattle.cell.specs.Limits.{long, longIndices}
-use Rattle.cell.specs.Tables.{over, unlessRefused}
-use Rattle.cell.proofs.FirstRefusal.{neither}
+use Rattle.cell.specs.Tables.{over}
+use Rattle.cell.proofs.FirstRefusal.{first-none, neither}
 use Rattle.cell.proofs.FrameRefusals.{Within, limit-none, within-solutes}
+use Rattle.selection.specs.declared.Selected.the-variants.{Kept}
 use Rattle.selection.specs.Selection.{startsOf}
-use Rattle.selection.specs.Sound.{copiesIn}
+use Rattle.selection.specs.Sound.{copiesIn, soundLists}
 use Rattle.selection.specs.Input.{inputRefusals}
 use Rattle.selection.proofs.SelectRefusals.{Answers, selected, both-within}
 use Rattle.selection.proofs.SoundSelect.{select-sound, starts-length, starts-copies}
-use Rattle.selection.proofs.InputRefusals.{input-sound}
-use Rattle.clusters.specs.Table.{words}
+use Rattle.selection.proofs.InputRefusals.{input-sound, input-accepted}
+use Rattle.cluster_table.specs.Table.{words, soundTable}
 use Rattle.clusters.specs.Scan.{scanned}
-use Rattle.octree.specs.Tree.{treeRefusal}
+use Rattle.clusters.proofs.Scans.{scanned-long, scanned-sound}
 use Rattle.tree.specs.Points.{finiteWaters}
-use Rattle.tree.specs.Tree.{centerOrderAfter, waterOrderAfter, recordsAfter, boxesAfter}
-use Rattle.report.specs.Report.{reportRoom, reportValues, leavesAfter}
-use Rattle.mixing.specs.Frame.{Frame, Tables, Outcome, lent, kept, startList, pickNumbers, treeIn, isBlank, anyShort, short, limited, blankHolds, refused, mixed, fourFractions, mixedOutcome, frameOutcome, worked, tablesAfter}
-use Rattle.mixing.proofs.Outcomes.{outcome-worked, tables-worked}
+use Rattle.tree.specs.Tree.{frameTree, centerOrderAfter, waterOrderAfter, recordsAfter, boxesAfter}
+use Rattle.report.specs.Report.{leavesAfter}
+use Rattle.mixing.specs.Frame.{Frame, Tables, lent, kept, startList, pickNumbers, treeIn, isBlank, sizeRefusals, sized, limited, blankHolds, worked, tablesAfter}
+use Rattle.mixing.proofs.Outcomes.{Passed, roomNumber, tables-worked}
 
 -- ---- what the limits establish
 module _ (f : Frame) (none : firstRefusal (limited f) ≡ 0) where
-  within : Within (f .cell) (f .solutes) (f .waters) (f .indices)
+  pub within-limits : Within (f .cell) (f .solutes) (f .waters) (f .indices)
   unfolding limited
-  within = limit-none (f .cell) (f .solutes) (f .waters) (f .indices) none
+  within-limits = limit-none (f .cell) (f .solutes) (f .waters) (f .indices) none
 
   pub solutes-few : length (f .solutes) ≤ 196608
   unfolding long
-  solutes-few = ltb-false 196608 (length (f .solutes)) (within .solutes-few)
+  solutes-few = ltb-false 196608 (length (f .solutes)) (within-limits .solutes-few)
 
   pub waters-few : length (f .waters) ≤ 196608
   unfolding long
-  waters-few = ltb-false 196608 (length (f .waters)) (within .waters-few)
+  waters-few = ltb-false 196608 (length (f .waters)) (within-limits .waters-few)
 
   pub indices-few : length (f .indices) ≤ 256
   unfolding longIndices
-  indices-few = ltb-false 256 (length (f .indices)) (within .indices-few)
+  indices-few = ltb-false 256 (length (f .indices)) (within-limits .indices-few)
 
-  -- ---- and that the frame is not blank
-  module _ (some : blankHolds f ≡ false) where
-    valid-cell : valid (f .cell) ≡ true
-    unfolding blankHolds isBlank
-    valid-cell = not-false (valid (f .cell)) (neither (not (valid (f .cell))) _ some .0)
+-- ---- what 5, 6 and 7 establish
+pub record Room (f : Frame) (t : Tables) : Type 0 where
+  pub few : length (kept f) ≤ 4096
+  pub light : length (pickNumbers f) ≤ 65536
+  -- as the test has it
+  pub lists-long : (ltb (length (t .starts)) (length (kept f) + 1) || ltb (length (t .picks)) (length (pickNumbers f))) ≡ false
+  pub clusters-fit : words (length (kept f)) ≤ length (t .clusters)
+  pub orders-fit : (length (kept f) ≤ length (t .centerOrder)) × (finiteWaters (f .waters) ≤ length (t .waterOrder))
 
-    -- ---- and that copies and picks are few
-    module _ (few : length (kept f) ≤ 4096) (light : length (pickNumbers f) ≤ 65536) where
-      pub fine : firstRefusal (inputRefusals (f .cell) (f .solutes) [] (startList f) (pickNumbers f)) ≡ 0
-      unfolding startList pickNumbers kept
-      fine =
-          sym (input-sound (f .cell) (f .solutes) [] (startList f) (pickNumbers f)
-          (within-solutes (f .cell) (f .solutes) (f .waters) (f .indices) within valid-cell)
-          (select-sound (f .solutes) (f .per) (f .indices) few light))
+-- what Select and then the cores leave: these read the pick lists given here, and Report's number is r
+abbrev pub coresLeave : Frame → Tables → List ℕ → List ℕ → ℕ → Tables
+coresLeave f t starts picks r =
+    let tree = frameTree (f .cell) (f .solutes) (f .waters) starts picks in
+    lent (over (startList f) (t .starts)) (over (pickNumbers f) (t .picks)) (scanned (f .cell) (f .solutes) starts picks (t .clusters))
+    (centerOrderAfter r tree (copiesIn starts) (t .centerOrder)) (waterOrderAfter r tree (finiteWaters (f .waters)) (t .waterOrder))
+    (recordsAfter r tree (t .records)) (boxesAfter r tree (t .boxes)) (leavesAfter r (f .cell) (f .waters) starts (tree .nodes) (t .leaves))
 
-      pub copies-are : copiesIn (startList f) ≡ length (kept f)
-      unfolding startList
-      copies-are = starts-copies (kept f)
+module _ (f : Frame) (t : Tables) (p : Passed f t) where
+  pub room : Room f t
+  unfolding sized sizeRefusals
+  room =
+      let lists = ltb (length (t .starts)) (length (kept f) + 1) || ltb (length (t .picks)) (length (pickNumbers f)) in
+      let orders = ltb (length (t .centerOrder)) (length (kept f)) || ltb (length (t .waterOrder)) (finiteWaters (f .waters)) in
+      let seven = refuse 7 (lists || (ltb (length (t .clusters)) (words (length (kept f))) || orders)) in
+      let n5 = first-none (refuse 5 (ltb 4096 (length (kept f)))) (refuse 6 (ltb 65536 (length (pickNumbers f))) ∷ seven ∷ []) (λ h. omega arith) (p .fits) in
+      let n6 = first-none (refuse 6 (ltb 65536 (length (pickNumbers f)))) (seven ∷ []) (λ h. omega arith) (n5 .1) in
+      let n7 = first-none seven [] (λ h. omega arith) (n6 .1) in
+      let e = neither lists _ (n7 .0) in
+      let g = neither (ltb (length (t .clusters)) (words (length (kept f)))) orders (e .1) in
+      record {
+        few = ltb-false 4096 (length (kept f)) (n5 .0);
+        light = ltb-false 65536 (length (pickNumbers f)) (n6 .0);
+        lists-long = e .0;
+        clusters-fit = ltb-false (length (t .clusters)) (words (length (kept f))) (g .0);
+        orders-fit = both-within (length (t .centerOrder)) (length (kept f)) (length (t .waterOrder)) (finiteWaters (f .waters)) (g .1);
+      }
 
-      -- ---- and that no table is too short
-      module _ (t : Tables) (room : short f t ≡ false) where
-        parts : ((length (kept f) + 1 ≤ length (t .starts)) × (length (pickNumbers f) ≤ length (t .picks)))
-            × ((words (length (kept f)) ≤ length (t .clusters)) × ((length (kept f) ≤ length (t .centerOrder)) × (finiteWaters (f .waters) ≤ length (t .waterOrder))))
-        unfolding short anyShort
-        parts =
-            let e = neither (ltb (length (t .starts)) (length (kept f) + 1) || ltb (length (t .picks)) (length (pickNumbers f))) _ room in
-            let g = neither (ltb (length (t .clusters)) (words (length (kept f)))) _ (e .1) in (
-              both-within (length (t .starts)) (length (kept f) + 1) (length (t .picks)) (length (pickNumbers f)) (e .0),
-              (ltb-false (length (t .clusters)) (words (length (kept f))) (g .0), both-within (length (t .centerOrder)) (length (kept f)) (length (t .waterOrder)) (finiteWaters (f .waters)) (g .1)),
-            )
+  pub lists-fit : (length (kept f) + 1 ≤ length (t .starts)) × (length (pickNumbers f) ≤ length (t .picks))
+  lists-fit = both-within (length (t .starts)) (length (kept f) + 1) (length (t .picks)) (length (pickNumbers f)) (room .lists-long)
 
-        pub lists-fit : (length (kept f) + 1 ≤ length (t .starts)) × (length (pickNumbers f) ≤ length (t .picks))
-        lists-fit = parts .0
+  -- ---- the pick lists are sound, and what the cores ask of their tables
+  pub valid-cell : valid (f .cell) ≡ true
+  unfolding blankHolds isBlank
+  valid-cell = not-false (valid (f .cell)) (neither (not (valid (f .cell))) _ (p .some) .0)
 
-        pub clusters-fit : words (copiesIn (startList f)) ≤ length (t .clusters)
-        clusters-fit = rw copies-are (parts .1 .0)
+  pub fine : firstRefusal (inputRefusals (f .cell) (f .solutes) [] (startList f) (pickNumbers f)) ≡ 0
+  unfolding startList pickNumbers kept
+  fine =
+      sym (input-sound (f .cell) (f .solutes) [] (startList f) (pickNumbers f)
+      (within-solutes (f .cell) (f .solutes) (f .waters) (f .indices) (within-limits f (p .within)) valid-cell)
+      (select-sound (f .solutes) (f .per) (f .indices) (room .few) (room .light)))
 
-        pub orders-fit : (copiesIn (startList f) ≤ length (t .centerOrder)) × (finiteWaters (f .waters) ≤ length (t .waterOrder))
-        orders-fit = rw copies-are (parts .1 .1)
+  copies-are : copiesIn (startList f) ≡ length (kept f)
+  unfolding startList
+  copies-are = starts-copies (kept f)
 
-        -- Select's answers and tables
-        selects : Answers (f .solutes) (f .per) (f .indices) (t .starts) (t .picks) 0 (length (kept f) ∷ length (pickNumbers f) ∷ []) (over (startList f) (t .starts)) (over (pickNumbers f) (t .picks))
-        unfolding kept pickNumbers startList short anyShort longIndices
-        selects =
-            selected (f .solutes) (f .per) (f .indices) (t .starts) (t .picks) (within .solutes-whole) (rw (within .solutes-few) (within .indices-few)) (within .solutes-within)
-            few light (neither (ltb (length (t .starts)) (length (kept f) + 1) || ltb (length (t .picks)) (length (pickNumbers f))) _ room .0)
+  pub cores-fit : ((length (f .waters) ≤ 196608) × (words (copiesIn (startList f)) ≤ length (t .clusters)))
+      × ((copiesIn (startList f) ≤ length (t .centerOrder)) × (finiteWaters (f .waters) ≤ length (t .waterOrder)))
+  cores-fit = rw copies-are ((waters-few f (p .within), room .clusters-fit), room .orders-fit)
 
-        -- ---- what the cores answer and leave is the frame's: r is Report's number
-        module _ (r : ℕ) (answered : r ≡ treeRefusal (reportRoom (t .records) (t .boxes) (t .leaves)) (treeIn f)) where
-          pub worked-outcome : unlessRefused r (mixed (fourFractions (f .cell) (f .solutes) (startList f) (pickNumbers f) (t .clusters)) (copiesIn (startList f) ∷ length (pickNumbers f) ∷ reportValues (treeIn f .nodes))) (refused r) ≡ frameOutcome f t
-          unfolding mixedOutcome
-          worked-outcome = rw (outcome-worked f t none some few light room r answered, ← selects .1 .0, copies-are)
+  pub lists-sound : soundLists (f .solutes) (startList f) (pickNumbers f) ≡ true
+  lists-sound = input-accepted (f .cell) (f .solutes) [] (startList f) (pickNumbers f) fine .1
 
-          pub worked-tables : (starts picks clusters centers waters records : List ℕ) (boxes : List Float) (leaves : List ℕ)
-              → starts ≡ over (startList f) (t .starts) → picks ≡ over (pickNumbers f) (t .picks)
-              → clusters ≡ scanned (f .cell) (f .solutes) (startList f) (pickNumbers f) (t .clusters)
-              → centers ≡ centerOrderAfter r (treeIn f) (copiesIn (startList f)) (t .centerOrder)
-              → waters ≡ waterOrderAfter r (treeIn f) (finiteWaters (f .waters)) (t .waterOrder)
-              → records ≡ recordsAfter r (treeIn f) (t .records)
-              → boxes ≡ boxesAfter r (treeIn f) (t .boxes)
-              → leaves ≡ leavesAfter r (f .cell) (f .waters) (startList f) (treeIn f .nodes) (t .leaves)
-              → lent starts picks clusters centers waters records boxes leaves ≡ tablesAfter f t
-          unfolding worked
-          worked-tables starts picks clusters centers waters records boxes leaves e1 e2 e3 e4 e5 e6 e7 e8 =
-              rw (tables-worked f t none some few light room r answered, e1, e2, e3, e4, e5, e6, e7, e8, selects .1 .1 .0, selects .1 .1 .1)
+  -- the scanned table, for as many copies as there are
+  pub table-sound : (n : ℕ) (table : List ℕ) → n ≡ length (kept f) → table ≡ scanned (f .cell) (f .solutes) (startList f) (pickNumbers f) (t .clusters)
+      → ((n ≤ 4096) × (words n ≤ length table)) × (soundTable n table ≡ true)
+  table-sound n table e h =
+      let table-long = scanned-long (f .cell) (f .solutes) (startList f) (pickNumbers f) (t .clusters) fine (cores-fit .0 .1) in
+      let table-fine = scanned-sound (f .cell) (f .solutes) (startList f) (pickNumbers f) (t .clusters) fine (cores-fit .0 .1) in
+      rw (e, h) ((room .few, rw copies-are at table-long), rw copies-are at table-fine)
+
+  -- ---- what the cores leave is what the frame leaves
+  -- Select's answer and tables
+  pub selects : Answers (f .solutes) (f .per) (f .indices) (t .starts) (t .picks) (Kept (length (kept f)) (length (pickNumbers f))) (over (startList f) (t .starts)) (over (pickNumbers f) (t .picks))
+  unfolding kept pickNumbers startList longIndices
+  selects =
+      let w = within-limits f (p .within) in
+      selected (f .solutes) (f .per) (f .indices) (t .starts) (t .picks) (w .solutes-whole) (rw (w .solutes-few) (w .indices-few)) (w .solutes-within) (room .few) (room .light) (room .lists-long)
+
+  pub worked-tables : coresLeave f t (startList f) (pickNumbers f) (roomNumber f t) ≡ tablesAfter f t
+  unfolding worked treeIn
+  worked-tables = rw (selects .1 .0, selects .1 .1) (tables-worked f t p)
 
 -- ---- the pick lists, as the frame lends them
 pub starts-lent : (f : Frame) (starts : List ℕ) (n : ℕ) → n ≡ length (kept f) → take (n + 1) (over (startList f) starts) ≡ startList f

@@ -1,26 +1,27 @@
 -- Document 01, 'Whole frame': 1, 2, 3, 4; then blank; then 5, 6, 7, 13; otherwise Select, Open, the rows in rising order, Close,
 -- Dispersion and Report, with their answers and tables. Definitions only. Assumes nothing.
 use Prim.Native.Nat.{ℕ, _+_}
-use mathlib.Core.Bool.{Bool, true, false, cond, not, _&&_, _||_}
+use mathlib.Core.Bool.{Bool, cond, not, _&&_, _||_}
 use mathlib.Core.List.{List, [], _∷_, _++_}
 use lib.Dec.{ltb, eqb}
 use lib.ListN.{length}
-use lib.Ieee.{Float, binary32, ofBits}
+use lib.Ieee.{Float}
 use Rattle.cell.specs.declared.Cell.{Cell}
 use Rattle.cell.specs.Cell.{valid}
 use Rattle.cell.specs.Refusals.{Refusal, refuse, firstRefusal}
 use Rattle.cell.specs.Limits.{maxCopies, maxPicks, limitRefusals}
 use Rattle.cell.specs.Tables.{unlessRefused}
-use Rattle.selection.specs.Selection.{keptCopies, joined, startsOf, selectValues, selectStarts, selectPicks}
+use Rattle.selection.specs.Selection.{keptCopies, joined, startsOf, selectStarts, selectPicks}
 use Rattle.selection.specs.Sound.{copiesIn}
-use Rattle.clusters.specs.Table.{words}
-use Rattle.clusters.specs.Answers.{closeFractions}
+use Rattle.cluster_table.specs.Table.{words}
+use Rattle.cluster_table.specs.Fractions.{tableFractions}
 use Rattle.clusters.specs.Scan.{scanned}
 use Rattle.dispersion.specs.Dispersion.{dispersionOf}
+use Rattle.nodes.specs.Nodes.{deepest}
 use Rattle.octree.specs.Tree.{Subtrees}
 use Rattle.tree.specs.Points.{finiteWaters}
 use Rattle.tree.specs.Tree.{frameTree, roomRefusal, byOutcome, centerOrderAfter, waterOrderAfter, recordsAfter, boxesAfter}
-use Rattle.report.specs.Report.{reportRoom, reportValues, leavesAfter}
+use Rattle.report.specs.Report.{reportRoom, reportedLeaves, dryLeaves, leavesAfter}
 use Rattle.mixing.specs.declared.FrameAnswer.{FrameAnswer}
 use Rattle.mixing.specs.declared.FrameAnswer.the-variants.{Refused, Blank, Mixed}
 
@@ -80,25 +81,22 @@ unfoldable pub isBlank : Cell → List Float → List Float → ℕ → ℕ → 
 isBlank c solutes waters copies finite =
     not (valid c) || (eqb (length solutes) 0 || (eqb (length waters) 0 || (eqb copies 0 || eqb finite 0)))
 
--- 7 where a table is too short for so many copies, picks and finite waters: by the lengths of the pick lists, the cluster table
--- and the order lists
-unfoldable pub anyShort : ℕ → ℕ → ℕ → ℕ → ℕ → ℕ → ℕ → ℕ → Bool
-anyShort copies picked finite starts picks clusters centerOrder waterOrder =
-    (ltb starts (copies + 1) || ltb picks picked) || (ltb clusters (words copies) || (ltb centerOrder copies || ltb waterOrder finite))
+-- 5, 6 and 7 for so many copies, picks and finite waters, in tables of these lengths: the pick lists, the cluster table, the order lists
+unfoldable pub sizeRefusals : ℕ → ℕ → ℕ → ℕ → ℕ → ℕ → ℕ → ℕ → List Refusal
+sizeRefusals copies picked finite starts picks clusters centerOrder waterOrder =
+    refuse 5 (ltb maxCopies copies)
+    ∷ refuse 6 (ltb maxPicks picked)
+    ∷ refuse 7 ((ltb starts (copies + 1) || ltb picks picked) || (ltb clusters (words copies) || (ltb centerOrder copies || ltb waterOrder finite)))
+    ∷ []
 
-unfoldable pub short : Frame → Tables → Bool
-short f t =
-    anyShort (length (kept f)) (length (pickNumbers f)) (finiteWaters (f .waters))
+unfoldable pub sized : Frame → Tables → List Refusal
+sized f t =
+    sizeRefusals (length (kept f)) (length (pickNumbers f)) (finiteWaters (f .waters))
     (length (t .starts)) (length (t .picks)) (length (t .clusters)) (length (t .centerOrder)) (length (t .waterOrder))
 
 -- 5, 6, 7, 13
 unfoldable pub tableRefusals : Frame → Tables → List Refusal
-tableRefusals f t =
-    refuse 5 (ltb maxCopies (length (kept f)))
-    ∷ refuse 6 (ltb maxPicks (length (pickNumbers f)))
-    ∷ refuse 7 (short f t)
-    ∷ roomRefusal (reportRoom (t .records) (t .boxes) (t .leaves)) (treeIn f)
-    ∷ []
+tableRefusals f t = sized f t ++ (roomRefusal (reportRoom (t .records) (t .boxes) (t .leaves)) (treeIn f) ∷ [])
 
 -- 1, 2, 3, 4
 unfoldable pub limited : Frame → List Refusal
@@ -117,46 +115,28 @@ unfoldable pub frameBlank : Frame → Bool
 frameBlank f = eqb (firstRefusal (limited f)) 0 && blankHolds f
 
 -- ---- the answer
--- its number; whether it is blank; the largest, contacted and pair fractions and the dispersion; and the counts: copies, picks, nodes,
--- greatest depth, reported leaves, dry leaves
-pub record Outcome : Type 0 where
-  pub number : ℕ
-  pub blank : Bool
-  pub fractions : List Float
-  pub counts : List ℕ
+-- the number of each case of an answer: a refusal's own, 0 where nothing is refused
+abbrev pub frameNumber : FrameAnswer → ℕ
+frameNumber (Refused n) = n
+frameNumber Blank = 0
+frameNumber (Mixed copies picks largest contacted pair dispersion nodes depth leaves dry) = 0
 
-abbrev pub refused : ℕ → Outcome
-refused r = record { number = r; blank = false; fractions = []; counts = [] }
+-- the refusal r, or x where nothing is refused
+abbrev pub refusedOr : ℕ → FrameAnswer → FrameAnswer
+refusedOr r x = unlessRefused r x (Refused r)
 
--- zeros in all four fractions
-abbrev pub blankOutcome : Outcome
-blankOutcome = record { number = 0; blank = true; fractions = ofBits binary32 0 ∷ ofBits binary32 0 ∷ ofBits binary32 0 ∷ ofBits binary32 0 ∷ []; counts = [] }
+-- what Select, Close, Dispersion and Report answer: the kept copies and the picks, the three fractions of the scanned table, the
+-- dispersion, and of the tree its nodes, greatest depth, reported leaves and dry leaves
+unfoldable pub mixedAnswer : Frame → Tables → FrameAnswer
+mixedAnswer f t =
+    let fs = tableFractions (scanned (f .cell) (f .solutes) (startList f) (pickNumbers f) (t .clusters)) in
+    let vs = treeIn f .nodes in
+    Mixed (length (kept f)) (length (pickNumbers f)) (fs .largest) (fs .contacted) (fs .pair) (dispersionOf (f .cell) (f .solutes) (startList f) (pickNumbers f))
+    (length vs) (deepest vs) (reportedLeaves vs) (dryLeaves vs)
 
-abbrev pub mixed : List Float → List ℕ → Outcome
-mixed fractions counts = record { number = 0; blank = false; fractions = fractions; counts = counts }
-
--- each case of an answer
-abbrev pub outcomeOf : FrameAnswer → Outcome
-outcomeOf (Refused n) = refused n
-outcomeOf Blank = blankOutcome
-outcomeOf (Mixed copies picks largest contacted pair dispersion nodes depth leaves dry) =
-    mixed (largest ∷ contacted ∷ pair ∷ dispersion ∷ []) (copies ∷ picks ∷ nodes ∷ depth ∷ leaves ∷ dry ∷ [])
-
--- what Close and Dispersion answer
-unfoldable pub fourFractions : Cell → List Float → List ℕ → List ℕ → List ℕ → List Float
-fourFractions c solutes starts picks clusters = closeFractions (scanned c solutes starts picks clusters) ++ (dispersionOf c solutes starts picks ∷ [])
-
--- what Select, Close, Dispersion and Report answer
-unfoldable pub mixedOutcome : Frame → Tables → Outcome
-mixedOutcome f t =
-    mixed
-    (fourFractions (f .cell) (f .solutes) (startList f) (pickNumbers f) (t .clusters))
-    (selectValues (f .solutes) (f .per) (f .indices) (t .starts) (t .picks) ++ reportValues (treeIn f .nodes))
-
--- what the whole frame answers
-unfoldable pub frameOutcome : Frame → Tables → Outcome
-frameOutcome f t =
-    cond (frameBlank f) blankOutcome (unlessRefused (frameRefusal f t) (mixedOutcome f t) (refused (frameRefusal f t)))
+-- what the whole frame answers; blank stands for zeros in all four fractions
+unfoldable pub frameAnswer : Frame → Tables → FrameAnswer
+frameAnswer f t = cond (frameBlank f) Blank (refusedOr (frameRefusal f t) (mixedAnswer f t))
 
 -- ---- the tables afterwards
 -- Select, the scan and Report, which answered r: 0 or 13

@@ -16,7 +16,7 @@ use Rattle.selection.specs.Selection.{finiteAtom, finiteFrom, indexed, picked, 
 use Rattle.dispersion.specs.Dispersion.{clamped}
 use Rattle.dispersion.proofs.Examples.{checked}
 use Rattle.tree.specs.Points.{finiteWaters}
-use Rattle.report.specs.Leaf.{larger, roomVolume, referenceLeaves, referenceVolume, partitionScore}
+use Rattle.leaf.specs.Leaf.{larger, roomVolume, referenceLeaves, referenceVolume, partitionScore}
 use Rattle.mixing.specs.Frame.{Frame, given, kept, isBlank, limited, blankHolds}
 use Rattle.mixing.proofs.Outcomes.{outcome-blank}
 use Rattle.starred.specs.Starred.{Starred, WithinLimits, AnswersBlank, alike, upTo, atoms}

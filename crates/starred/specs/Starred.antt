@@ -13,8 +13,9 @@ use Rattle.cell.specs.Refusals.{firstRefusal}
 use Rattle.selection.specs.Selection.{keptCopies}
 use Rattle.selection.specs.Sound.{copiesIn}
 use Rattle.dispersion.specs.Dispersion.{dispersionOf}
-use Rattle.report.specs.Leaf.{referenceVolume, partitionScore}
-use Rattle.mixing.specs.Frame.{Frame, Tables, given, limited, blankOutcome, frameOutcome, tablesAfter}
+use Rattle.leaf.specs.Leaf.{referenceVolume, partitionScore}
+use Rattle.mixing.specs.declared.FrameAnswer.the-variants.{Blank}
+use Rattle.mixing.specs.Frame.{Frame, Tables, given, limited, frameAnswer, tablesAfter}
 
 -- b on each axis, and the cell from 0 to b
 abbrev pub alike : ℕ → Vec3
@@ -34,7 +35,7 @@ WithinLimits f = firstRefusal (limited f) ≡ 0
 
 -- the whole frame answers blank and leaves the lent tables untouched, whatever they are
 abbrev pub AnswersBlank : Frame → Type 0
-AnswersBlank f = (t : Tables) → (frameOutcome f t ≡ blankOutcome) × (tablesAfter f t ≡ t)
+AnswersBlank f = (t : Tables) → (frameAnswer f t ≡ Blank) × (tablesAfter f t ≡ t)
 
 pub record Starred : Type 0 where
   -- cell 0..10: -2 ^ -40 wraps to 10, and 10 wraps to 0

@@ -1,17 +1,26 @@
 -- `mixing::frame` meets its contract: each return knows the tests before it, and one law says what it answers and leaves (Outcomes);
 -- the cores get what the tests establish, over the pick lists at the start of both tables (Tested). Assumes nothing.
 use mathlib.Core.Path.{_≡_, sym, ap, ap₂, _∙_}
-use mathlib.Core.Bool.{Bool, false}
+use mathlib.Core.Bool.{false}
+use mathlib.Core.List.{List}
 use Prim.Native.Nat.{ℕ, _+_, _≤_}
 use native.Mathlib.Omega.{arith}
 use lib.ListN.{length, take}
 use borrow.Author.Needs.{needs}
 use Rattle.cell.specs.Refusals.{firstRefusal}
 use Rattle.cell.specs.Tables.{over}
-use Rattle.tree.specs.Points.{finiteWaters}
-use Rattle.mixing.specs.Frame.{Frame, Tables, given, lent, kept, startList, pickNumbers, treeIn, isBlank, anyShort, short, limited, blankHolds}
-use Rattle.mixing.proofs.Outcomes.{outcome-limit, outcome-blank, outcome-5, outcome-6, outcome-7}
-use Rattle.mixing.proofs.Tested.{solutes-few, waters-few, indices-few, fine, lists-fit, clusters-fit, orders-fit, worked-outcome, worked-tables, starts-lent, picks-lent, starts-taken, picks-taken}
+use Rattle.cluster_table.specs.Fractions.{tableFractions}
+use Rattle.clusters.specs.Scan.{scanned}
+use Rattle.dispersion.specs.Dispersion.{dispersionOf}
+use Rattle.octree.specs.Tree.{Subtrees, treeRefusal}
+use Rattle.tree.specs.Tree.{frameTree}
+use Rattle.report.specs.Report.{reportRoom, reportAnswer}
+use Rattle.report.proofs.ReportOutcomes.{report-told}
+use Rattle.mixing.specs.Inner.{withReport}
+use Rattle.mixing.specs.Frame.{Frame, Tables, given, lent, kept, startList, pickNumbers, treeIn, isBlank, sized, limited, blankHolds}
+use Rattle.mixing.proofs.Outcomes.{Passed, roomNumber, outcome-limit, outcome-blank, outcome-size, answer-worked}
+use Rattle.mixing.proofs.Cores.{cores-answer}
+use Rattle.mixing.proofs.Tested.{solutes-few, indices-few, room, lists-fit, fine, cores-fit, lists-sound, table-sound, coresLeave, worked-tables, starts-lent, picks-lent, starts-taken, picks-taken}
 use Rattle.mixing.proofs.frame.Statement.{statement}
 use Rattle.mixing.proofs.frame.Tie as tie
 
@@ -24,66 +33,113 @@ tables-of st =
     lent (st .args .starts .now) (st .args .picks .now) (st .args .clusters .now) (st .args .center-order .now) (st .args .water-order .now) (st .args .records .now)
     (st .args .boxes .now) (st .args .leaves .now)
 
+-- ---- the places that lie before a place: the start, the counts, the last test, and each core's call
+abbrev start : tie.After-limit-refusal → tie.Start
+start c = c .before .before .before .before .before .before .before .before .before .before .before .before
+
+abbrev first : tie.Else3 → tie.Start
+first c = start (c .before .before .before .before .before .before .before)
+
+abbrev counts : tie.Else3 → tie.After-count
+counts c = c .before .before .before .before .before
+
+abbrev tests : tie.After-fill → tie.Else3
+tests c = c .before .before .before
+
+abbrev fills : tie.After-scan-all → tie.After-fill
+fills c = c .before .before .before .before .before .before .before .before .before
+
+abbrev scans : tie.After-dispersion-of → tie.After-scan-all
+scans c = c .before .before .before .before .before
+
+abbrev disperses : tie.After-report-of → tie.After-dispersion-of
+disperses c = c .before .before .before .before .before .before
+
 -- ---- what is known past each test
-limits-hold : (c : tie.Else1) → firstRefusal (limited (frame-of (c .before .before .before .before .before .before .before .before .before .before .before .before .before))) ≡ 0
+limits-hold : (c : tie.Else1) → firstRefusal (limited (frame-of (start (c .before)))) ≡ 0
 unfolding limited
 limits-hold c = sym (c .before .limit-refusal .ensures) ∙ c .if1 .left
 
-copies-counted : (c : tie.After-count) → c .count .result .copies ≡ length (kept (frame-of (c .before .before .before .before .before .before .before .before .before .before .before .before .before .before)))
+copies-counted : (c : tie.After-count) → c .count .result .copies ≡ length (kept (frame-of (start (c .before .before))))
 unfolding kept
 copies-counted c = c .count .ensures .0
 
-picks-counted : (c : tie.After-count) → c .count .result .picks ≡ length (pickNumbers (frame-of (c .before .before .before .before .before .before .before .before .before .before .before .before .before .before)))
+picks-counted : (c : tie.After-count) → c .count .result .picks ≡ length (pickNumbers (frame-of (start (c .before .before))))
 unfolding kept pickNumbers
 picks-counted c = c .count .ensures .1
 
-blank-tested : (c : tie.After-is-blank) → c .is-blank .result ≡ blankHolds (frame-of (c .before .before .before .before .before .before .before .before .before .before .before .before .before .before .before .before))
+blank-tested : (c : tie.After-is-blank) → c .is-blank .result ≡ blankHolds (frame-of (start (c .before .before .before .before)))
 unfolding blankHolds
-blank-tested c = c .is-blank .ensures ∙ ap₂ (isBlank (c .before .before .before .before .before .before .before .before .before .before .before .before .before .before .before .before .args .cell) (c .before .before .before .before .before .before .before .before .before .before .before .before .before .before .before .before .args .solutes .now) (c .before .before .before .before .before .before .before .before .before .before .before .before .before .before .before .before .args .waters .now)) (copies-counted (c .before .before)) (c .before .count-waters .ensures)
+blank-tested c =
+    let st = start (c .before .before .before .before) in
+    c .is-blank .ensures ∙ ap₂ (isBlank (st .args .cell) (st .args .solutes .now) (st .args .waters .now)) (copies-counted (c .before .before)) (c .before .count-waters .ensures)
 
-not-blank : (c : tie.Else2) → blankHolds (frame-of (c .before .before .before .before .before .before .before .before .before .before .before .before .before .before .before .before .before)) ≡ false
+not-blank : (c : tie.Else2) → blankHolds (frame-of (start (c .before .before .before .before .before))) ≡ false
 not-blank c = sym (blank-tested (c .before)) ∙ c .if2 .left
 
-few-copies : (c : tie.Else3) → length (kept (frame-of (c .before .before .before .before .before .before .before .before .before .before .before .before .before .before .before .before .before .before .before))) ≤ 4096
-few-copies c = omega (arith, copies-counted (c .before .before .before .before .before), c .if3 .left)
+size-tested : (c : tie.After-size-refusal) → c .size-refusal .result ≡ firstRefusal (sized (frame-of (start (c .before .before .before .before .before .before))) (tables-of (start (c .before .before .before .before .before .before))))
+unfolding sized
+size-tested c = c .size-refusal .ensures ∙ rw (copies-counted (c .before .before .before .before), picks-counted (c .before .before .before .before), c .before .before .before .count-waters .ensures)
 
-few-picks : (c : tie.Else4) → length (pickNumbers (frame-of (c .before .before .before .before .before .before .before .before .before .before .before .before .before .before .before .before .before .before .before .before .before))) ≤ 65536
-few-picks c = omega (arith, picks-counted (c .before .before .before .before .before .before .before), c .if4 .left)
+passed : (c : tie.Else3) → Passed (frame-of (first c)) (tables-of (first c))
+passed c = record { within = limits-hold (c .before .before .before .before .before .before); some = not-blank (c .before .before); fits = sym (size-tested (c .before)) ∙ c .if3 .left }
 
-short-tested : (c : tie.After-is-short) → c .is-short .result ≡ short (frame-of (c .before .before .before .before .before .before .before .before .before .before .before .before .before .before .before .before .before .before .before .before .before .before)) (tables-of (c .before .before .before .before .before .before .before .before .before .before .before .before .before .before .before .before .before .before .before .before .before .before))
-unfolding short
-short-tested c = c .is-short .ensures ∙ rw (copies-counted (c .before .before .before .before .before .before .before .before), picks-counted (c .before .before .before .before .before .before .before .before), c .before .before .before .before .before .before .before .count-waters .ensures)
-
-room : (c : tie.Else5) → short (frame-of (c .before .before .before .before .before .before .before .before .before .before .before .before .before .before .before .before .before .before .before .before .before .before .before)) (tables-of (c .before .before .before .before .before .before .before .before .before .before .before .before .before .before .before .before .before .before .before .before .before .before .before)) ≡ false
-room c = sym (short-tested (c .before)) ∙ c .if5 .left
+lists-fitted : (c : tie.Else3) → (length (kept (frame-of (first c))) + 1 ≤ length (first c .args .starts .now)) × (length (pickNumbers (frame-of (first c))) ≤ length (first c .args .picks .now))
+lists-fitted c = lists-fit (frame-of (first c)) (tables-of (first c)) (passed c)
 
 -- ---- the pick lists, once they are written
-starts-written : (c : tie.After-fill) → c .fill .last .1 .1 .1 .0 ≡ over (startList (frame-of (c .before .before .before .before .before .before .before .before .before .before .before .before .before .before .before .before .before .before .before .before .before .before .before .before .before .before))) (c .before .before .before .before .before .before .before .before .before .before .before .before .before .before .before .before .before .before .before .before .before .before .before .before .before .before .args .starts .now)
+starts-written : (c : tie.After-fill) → c .fill .last .1 .1 .1 .0 ≡ over (startList (frame-of (first (tests c)))) (first (tests c) .args .starts .now)
 unfolding startList kept
 starts-written c = c .fill .ensures .0
 
-picks-written : (c : tie.After-fill) → c .fill .last .1 .1 .1 .1 .0 ≡ over (pickNumbers (frame-of (c .before .before .before .before .before .before .before .before .before .before .before .before .before .before .before .before .before .before .before .before .before .before .before .before .before .before))) (c .before .before .before .before .before .before .before .before .before .before .before .before .before .before .before .before .before .before .before .before .before .before .before .before .before .before .args .picks .now)
+picks-written : (c : tie.After-fill) → c .fill .last .1 .1 .1 .1 .0 ≡ over (pickNumbers (frame-of (first (tests c)))) (first (tests c) .args .picks .now)
 unfolding pickNumbers kept
 picks-written c = c .fill .ensures .1
 
-starts-are : (c : tie.After-fill) → take (c .before .before .before .before .before .before .before .before .before .before .before .before .count .result .copies + 1) (c .fill .last .1 .1 .1 .0) ≡ startList (frame-of (c .before .before .before .before .before .before .before .before .before .before .before .before .before .before .before .before .before .before .before .before .before .before .before .before .before .before))
-starts-are c = ap (take (c .before .before .before .before .before .before .before .before .before .before .before .before .count .result .copies + 1)) (starts-written c) ∙ starts-lent (frame-of (c .before .before .before .before .before .before .before .before .before .before .before .before .before .before .before .before .before .before .before .before .before .before .before .before .before .before)) _ _ (copies-counted (c .before .before .before .before .before .before .before .before .before .before .before .before))
+starts-are : (c : tie.After-fill) → take (counts (tests c) .count .result .copies + 1) (c .fill .last .1 .1 .1 .0) ≡ startList (frame-of (first (tests c)))
+starts-are c =
+    ap (take (counts (tests c) .count .result .copies + 1)) (starts-written c) ∙ starts-lent (frame-of (first (tests c))) _ _ (copies-counted (counts (tests c)))
 
-picks-are : (c : tie.After-fill) → take (c .before .before .before .before .before .before .before .before .before .before .before .before .count .result .picks) (c .fill .last .1 .1 .1 .1 .0) ≡ pickNumbers (frame-of (c .before .before .before .before .before .before .before .before .before .before .before .before .before .before .before .before .before .before .before .before .before .before .before .before .before .before))
-picks-are c = ap (take (c .before .before .before .before .before .before .before .before .before .before .before .before .count .result .picks)) (picks-written c) ∙ picks-lent (frame-of (c .before .before .before .before .before .before .before .before .before .before .before .before .before .before .before .before .before .before .before .before .before .before .before .before .before .before)) _ _ (picks-counted (c .before .before .before .before .before .before .before .before .before .before .before .before))
+picks-are : (c : tie.After-fill) → take (counts (tests c) .count .result .picks) (c .fill .last .1 .1 .1 .1 .0) ≡ pickNumbers (frame-of (first (tests c)))
+picks-are c = ap (take (counts (tests c) .count .result .picks)) (picks-written c) ∙ picks-lent (frame-of (first (tests c))) _ _ (picks-counted (counts (tests c)))
 
-lists-fitted : (c : tie.Else5) → (length (kept (frame-of (c .before .before .before .before .before .before .before .before .before .before .before .before .before .before .before .before .before .before .before .before .before .before .before))) + 1 ≤ length (c .before .before .before .before .before .before .before .before .before .before .before .before .before .before .before .before .before .before .before .before .before .before .before .args .starts .now)) × (length (pickNumbers (frame-of (c .before .before .before .before .before .before .before .before .before .before .before .before .before .before .before .before .before .before .before .before .before .before .before))) ≤ length (c .before .before .before .before .before .before .before .before .before .before .before .before .before .before .before .before .before .before .before .before .before .before .before .args .picks .now))
-lists-fitted c = lists-fit (frame-of (c .before .before .before .before .before .before .before .before .before .before .before .before .before .before .before .before .before .before .before .before .before .before .before)) (limits-hold (c .before .before .before .before .before .before .before .before .before .before)) (not-blank (c .before .before .before .before .before .before)) (few-copies (c .before .before .before .before)) (few-picks (c .before .before)) (tables-of (c .before .before .before .before .before .before .before .before .before .before .before .before .before .before .before .before .before .before .before .before .before .before .before)) (room c)
+-- ---- what the cores answer, over these lists
+scanned-is : (c : tie.After-scan-all) →
+    let st = first (tests (fills c)) in
+    c .scan-all .last .1 .1 .1 .1 .0 ≡ scanned (st .args .cell) (st .args .solutes .now) (startList (frame-of st)) (pickNumbers (frame-of st)) (st .args .clusters .now)
+scanned-is c =
+    let st = first (tests (fills c)) in
+    c .scan-all .ensures ∙ (λ i. scanned (st .args .cell) (st .args .solutes .now) (starts-are (fills c) i) (picks-are (fills c) i) (st .args .clusters .now))
+
+dispersed : (c : tie.After-dispersion-of) →
+    let st = first (tests (fills (scans c))) in
+    c .dispersion-of .result ≡ dispersionOf (st .args .cell) (st .args .solutes .now) (startList (frame-of st)) (pickNumbers (frame-of st))
+dispersed c =
+    let l = fills (scans c) in
+    let st = first (tests l) in
+    c .dispersion-of .ensures ∙ (λ i. dispersionOf (st .args .cell) (st .args .solutes .now) (starts-are l i) (picks-are l i))
+
+reports : (c : tie.After-report-of) →
+    let st = first (tests (fills (scans (disperses c)))) in
+    c .report-of .result ≡ reportAnswer (roomNumber (frame-of st) (tables-of st)) (treeIn (frame-of st) .nodes)
+unfolding treeIn
+reports c =
+    let l = fills (scans (disperses c)) in
+    let st = first (tests l) in
+    let tree : List ℕ → List ℕ → Subtrees = frameTree (st .args .cell) (st .args .solutes .now) (st .args .waters .now) in
+    let limit = reportRoom (st .args .records .now) (st .args .boxes .now) (st .args .leaves .now) in
+    c .report-of .ensures .0
+    ∙ (λ i. reportAnswer (treeRefusal limit (tree (starts-are l i) (picks-are l i))) (tree (starts-are l i) (picks-are l i) .nodes))
 
 limit-refusal-requires : tie.Need-limit-refusal-requires
 limit-refusal-requires c κs = search needs
 
 returns : tie.Need-returns
 unfolding limited
-returns c = outcome-limit (frame-of (c .before .before .before .before .before .before .before .before .before .before .before .before .before)) (tables-of (c .before .before .before .before .before .before .before .before .before .before .before .before .before)) (c .before .limit-refusal .result) (c .before .limit-refusal .ensures) (c .if1 .taken)
+returns c = let st = start (c .before) in outcome-limit (frame-of st) (tables-of st) (c .before .limit-refusal .result) (c .before .limit-refusal .ensures) (c .if1 .taken)
 
 count-requires : tie.Need-count-requires
-count-requires c κs = (solutes-few (frame-of (c .before .before .before .before .before .before .before .before .before .before .before .before .before)) (limits-hold c), indices-few (frame-of (c .before .before .before .before .before .before .before .before .before .before .before .before .before)) (limits-hold c))
+count-requires c κs = let f = frame-of (start (c .before)) in (solutes-few f (limits-hold c), indices-few f (limits-hold c))
 
 count-waters-requires : tie.Need-count-waters-requires
 count-waters-requires c κs = search needs
@@ -92,58 +148,69 @@ is-blank-requires : tie.Need-is-blank-requires
 is-blank-requires c κs = search needs
 
 returns-2 : tie.Need-returns-2
-returns-2 c = outcome-blank (frame-of (c .before .before .before .before .before .before .before .before .before .before .before .before .before .before .before .before .before)) (tables-of (c .before .before .before .before .before .before .before .before .before .before .before .before .before .before .before .before .before)) (limits-hold (c .before .before .before .before)) (sym (blank-tested (c .before)) ∙ c .if2 .taken)
+returns-2 c = let st = start (c .before .before .before .before .before) in outcome-blank (frame-of st) (tables-of st) (limits-hold (c .before .before .before .before)) (sym (blank-tested (c .before)) ∙ c .if2 .taken)
+
+size-refusal-requires : tie.Need-size-refusal-requires
+size-refusal-requires c κs = search needs
 
 returns-3 : tie.Need-returns-3
-returns-3 c = outcome-5 (frame-of (c .before .before .before .before .before .before .before .before .before .before .before .before .before .before .before .before .before .before .before)) (tables-of (c .before .before .before .before .before .before .before .before .before .before .before .before .before .before .before .before .before .before .before)) (limits-hold (c .before .before .before .before .before .before)) (not-blank (c .before .before)) (omega (arith, copies-counted (c .before .before .before .before .before), c .if3 .taken))
-
-returns-4 : tie.Need-returns-4
-returns-4 c =
-    outcome-6 (frame-of (c .before .before .before .before .before .before .before .before .before .before .before .before .before .before .before .before .before .before .before .before .before)) (tables-of (c .before .before .before .before .before .before .before .before .before .before .before .before .before .before .before .before .before .before .before .before .before)) (limits-hold (c .before .before .before .before .before .before .before .before)) (not-blank (c .before .before .before .before)) (few-copies (c .before .before)) (omega (arith, picks-counted (c .before .before .before .before .before .before .before), c .if4 .taken))
-
-is-short-requires : tie.Need-is-short-requires
-is-short-requires c κs = search needs
-
-returns-5 : tie.Need-returns-5
-returns-5 c =
-    outcome-7 (frame-of (c .before .before .before .before .before .before .before .before .before .before .before .before .before .before .before .before .before .before .before .before .before .before .before)) (tables-of (c .before .before .before .before .before .before .before .before .before .before .before .before .before .before .before .before .before .before .before .before .before .before .before)) (limits-hold (c .before .before .before .before .before .before .before .before .before .before)) (not-blank (c .before .before .before .before .before .before)) (few-copies (c .before .before .before .before)) (few-picks (c .before .before)) (sym (short-tested (c .before)) ∙ c .if5 .taken)
+returns-3 c =
+    let st = start (c .before .before .before .before .before .before .before) in
+    outcome-size (frame-of st) (tables-of st) (limits-hold (c .before .before .before .before .before .before)) (not-blank (c .before .before)) (c .before .size-refusal .result) (size-tested (c .before)) (c .if3 .taken)
 
 fill-requires : tie.Need-fill-requires
 unfolding pickNumbers kept
 fill-requires c κs =
-    ((solutes-few (frame-of (c .before .before .before .before .before .before .before .before .before .before .before .before .before .before .before .before .before .before .before .before .before .before .before .before .before)) (limits-hold (c .before .before .before .before .before .before .before .before .before .before .before .before)), few-picks (c .before .before .before .before)), omega (arith, lists-fitted (c .before .before) .0, lists-fitted (c .before .before) .1))
+    let s = c .before .before in
+    ((solutes-few (frame-of (first s)) (passed s .within), room (frame-of (first s)) (tables-of (first s)) (passed s) .light), omega (arith, lists-fitted s .0, lists-fitted s .1))
 
-add-mix : tie.Need-add-mix
-add-mix c = search needs
+add-firsts : tie.Need-add-firsts
+add-firsts c = let s = c .before .before .before .before .before .before .before .before in search (needs, room (frame-of (first s)) (tables-of (first s)) (passed s) .few, copies-counted (counts s))
 
-slice-reshare-prefix-mix : tie.Need-slice-reshare-prefix-mix
-slice-reshare-prefix-mix c = search (needs, lists-fitted (c .before .before .before .before .before .before .before .before) .0, copies-counted (c .before .before .before .before .before .before .before .before .before .before .before .before .before .before .before .before .before))
+slice-reshare-prefix-firsts : tie.Need-slice-reshare-prefix-firsts
+slice-reshare-prefix-firsts c = let s = c .before .before .before .before .before .before .before .before in search (needs, lists-fitted s .0, copies-counted (counts s))
 
-slice-aggregate-mix : tie.Need-slice-aggregate-mix
-slice-aggregate-mix c = starts-taken (frame-of (c .before .before .before .before .before .before .before .before .before .before .before .before .before .before .before .before .before .before .before .before .before .before .before .before .before .before .before .before .before .before .before .before)) _ _ (copies-counted (c .before .before .before .before .before .before .before .before .before .before .before .before .before .before .before .before .before .before)) (starts-are (c .before .before .before .before .before .before))
+slice-aggregate-firsts : tie.Need-slice-aggregate-firsts
+slice-aggregate-firsts c = let l = c .before .before .before .before .before .before in starts-taken (frame-of (first (tests l))) _ _ (copies-counted (counts (tests l))) (starts-are l)
 
-slice-reshare-prefix-mix-2 : tie.Need-slice-reshare-prefix-mix-2
-slice-reshare-prefix-mix-2 c = search (needs, lists-fitted (c .before .before .before .before .before .before .before .before .before) .1, picks-counted (c .before .before .before .before .before .before .before .before .before .before .before .before .before .before .before .before .before .before))
+slice-reshare-prefix-picked : tie.Need-slice-reshare-prefix-picked
+slice-reshare-prefix-picked c = let s = c .before .before .before .before .before .before .before .before .before in search (needs, lists-fitted s .1, picks-counted (counts s))
 
-slice-aggregate-mix-2 : tie.Need-slice-aggregate-mix-2
-slice-aggregate-mix-2 c = picks-taken (frame-of (c .before .before .before .before .before .before .before .before .before .before .before .before .before .before .before .before .before .before .before .before .before .before .before .before .before .before .before .before .before .before .before .before .before)) _ _ (picks-counted (c .before .before .before .before .before .before .before .before .before .before .before .before .before .before .before .before .before .before .before)) (picks-are (c .before .before .before .before .before .before .before))
+slice-aggregate-picked : tie.Need-slice-aggregate-picked
+slice-aggregate-picked c = let l = c .before .before .before .before .before .before .before in picks-taken (frame-of (first (tests l))) _ _ (picks-counted (counts (tests l))) (picks-are l)
 
-mix-requires : tie.Need-mix-requires
-mix-requires c κs =
-    let f = frame-of (c .before .before .before .before .before .before .before .before .before .before .before .before .before .before .before .before .before .before .before .before .before .before .before .before .before .before .before .before .before .before .before .before .before .before .before .before .before .before .before) in
-    let t = tables-of (c .before .before .before .before .before .before .before .before .before .before .before .before .before .before .before .before .before .before .before .before .before .before .before .before .before .before .before .before .before .before .before .before .before .before .before .before .before .before .before) in
-    let e1 = limits-hold (c .before .before .before .before .before .before .before .before .before .before .before .before .before .before .before .before .before .before .before .before .before .before .before .before .before .before) in
-    let e2 = not-blank (c .before .before .before .before .before .before .before .before .before .before .before .before .before .before .before .before .before .before .before .before .before .before) in
-    let e3 = few-copies (c .before .before .before .before .before .before .before .before .before .before .before .before .before .before .before .before .before .before .before .before) in
-    let e4 = few-picks (c .before .before .before .before .before .before .before .before .before .before .before .before .before .before .before .before .before .before) in
-    let e5 = room (c .before .before .before .before .before .before .before .before .before .before .before .before .before .before .before .before) in
-    rw (starts-are (c .before .before .before .before .before .before .before .before .before .before .before .before .before), picks-are (c .before .before .before .before .before .before .before .before .before .before .before .before .before)) (fine f e1 e2 e3 e4, ((waters-few f e1, clusters-fit f e1 e2 e3 e4 t e5), orders-fit f e1 e2 e3 e4 t e5))
+scan-all-requires : tie.Need-scan-all-requires
+scan-all-requires c κs =
+    let l = c .before .before .before .before .before .before .before .before in
+    let s = tests l in
+    rw (starts-are l, picks-are l) (fine (frame-of (first s)) (tables-of (first s)) (passed s), cores-fit (frame-of (first s)) (tables-of (first s)) (passed s) .0 .1)
+
+fractions-requires : tie.Need-fractions-requires
+fractions-requires c κs =
+    let s = tests (fills (c .before .before .before)) in
+    table-sound (frame-of (first s)) (tables-of (first s)) (passed s) _ _ (copies-counted (counts s)) (scanned-is (c .before .before .before))
+
+dispersion-of-requires : tie.Need-dispersion-of-requires
+dispersion-of-requires c κs =
+    let l = fills (c .before .before .before .before) in
+    let s = tests l in
+    rw (starts-are l, picks-are l) (lists-sound (frame-of (first s)) (tables-of (first s)) (passed s))
+
+report-of-requires : tie.Need-report-of-requires
+report-of-requires c κs =
+    let l = fills (scans (c .before .before .before .before .before)) in
+    let s = tests l in
+    let fit = cores-fit (frame-of (first s)) (tables-of (first s)) (passed s) in
+    rw (starts-are l, picks-are l) (lists-sound (frame-of (first s)) (tables-of (first s)) (passed s), (fit .0 .0, fit .1))
+
+with-report-requires : tie.Need-with-report-requires
+with-report-requires c κs = search needs
 
 same-length : tie.Need-same-length
-same-length c = search needs
+same-length c = search (needs, c .before .before .before .before .before .before .before .before .before .before .before .before .before .before .before .before .before .before .before .before .before .before .before .before .before .before .before .before .before .before .starts .given)
 
 same-length-2 : tie.Need-same-length-2
-same-length-2 c = search needs
+same-length-2 c = search (needs, c .before .before .before .before .before .before .before .before .before .before .before .before .before .before .before .before .before .before .before .before .before .before .before .before .before .before .before .before .picks .given)
 
 same-length-3 : tie.Need-same-length-3
 same-length-3 c = search needs
@@ -163,21 +230,23 @@ same-length-7 c = search needs
 same-length-8 : tie.Need-same-length-8
 same-length-8 c = search needs
 
-returns-6 : tie.Need-returns-6
-unfolding treeIn
-returns-6 c =
-    let f = frame-of (c .before .before .before .before .before .before .before .before .before .before .before .before .before .before .before .before .before .before .before .before .before .before .before .before .before .before .before .before .before .before .before .before .before .before .before .before .before .before .before .before .before .before .before .before .before .before .before .before .before .before .before .before) in
-    let t = tables-of (c .before .before .before .before .before .before .before .before .before .before .before .before .before .before .before .before .before .before .before .before .before .before .before .before .before .before .before .before .before .before .before .before .before .before .before .before .before .before .before .before .before .before .before .before .before .before .before .before .before .before .before .before) in
-    let e1 = limits-hold (c .before .before .before .before .before .before .before .before .before .before .before .before .before .before .before .before .before .before .before .before .before .before .before .before .before .before .before .before .before .before .before .before .before .before .before .before .before .before .before) in
-    let e2 = not-blank (c .before .before .before .before .before .before .before .before .before .before .before .before .before .before .before .before .before .before .before .before .before .before .before .before .before .before .before .before .before .before .before .before .before .before .before) in
-    let e3 = few-copies (c .before .before .before .before .before .before .before .before .before .before .before .before .before .before .before .before .before .before .before .before .before .before .before .before .before .before .before .before .before .before .before .before .before) in
-    let e4 = few-picks (c .before .before .before .before .before .before .before .before .before .before .before .before .before .before .before .before .before .before .before .before .before .before .before .before .before .before .before .before .before .before .before) in
-    let e5 = room (c .before .before .before .before .before .before .before .before .before .before .before .before .before .before .before .before .before .before .before .before .before .before .before .before .before .before .before .before .before) in
-    let got = rw (starts-are (c .before .before .before .before .before .before .before .before .before .before .before .before .before .before .before .before .before .before .before .before .before .before .before .before .before .before), picks-are (c .before .before .before .before .before .before .before .before .before .before .before .before .before .before .before .before .before .before .before .before .before .before .before .before .before .before)) at (c .before .before .before .before .before .before .before .before .before .before .before .before .mix .ensures) in
-    let tables = got .1 .1 in (
-      got .1 .0 ∙ worked-outcome f e1 e2 e3 e4 t e5 _ (got .0),
-      worked-tables f e1 e2 e3 e4 t e5 _ (got .0) _ _ _ _ _ _ _ _ (starts-written (c .before .before .before .before .before .before .before .before .before .before .before .before .before .before .before .before .before .before .before .before .before .before .before .before .before .before)) (picks-written (c .before .before .before .before .before .before .before .before .before .before .before .before .before .before .before .before .before .before .before .before .before .before .before .before .before .before)) (tables .0) (tables .1 .0) (tables .1 .1 .0)
-          (tables .1 .1 .1 .0) (tables .1 .1 .1 .1 .0) (tables .1 .1 .1 .1 .1),
+returns-4 : tie.Need-returns-4
+returns-4 c =
+    let r = c .before .before .before .before .before .before .before .before .before .before .before in
+    let d = disperses r in
+    let k = scans d in
+    let l = fills k in
+    let s = tests l in
+    let closed = c .before .before .before .before .before .before .before .before .before .before .before .before .before .before .before .before .before .before .fractions .ensures ∙ ap tableFractions (scanned-is k) in
+    let left = r .report-of .ensures .1 in
+    let number = report-told _ _ _ (reports r) .0 in (
+      c .with-report .ensures
+          ∙ (λ i. withReport (copies-counted (counts s) i) (picks-counted (counts s) i) (closed i) (dispersed d i) (reports r i))
+          ∙ cores-answer (frame-of (first s)) (tables-of (first s)) (roomNumber (frame-of (first s)) (tables-of (first s)))
+          ∙ answer-worked (frame-of (first s)) (tables-of (first s)) (passed s),
+      (λ i. lent (starts-written l i) (picks-written l i) (k .scan-all .ensures i) (left .0 i) (left .1 .0 i) (left .1 .1 .0 i) (left .1 .1 .1 .0 i) (left .1 .1 .1 .1 i))
+          ∙ (λ i. coresLeave (frame-of (first s)) (tables-of (first s)) (starts-are l i) (picks-are l i) (number i))
+          ∙ worked-tables (frame-of (first s)) (tables-of (first s)) (passed s),
     )
 
 pub frame-spec : {M : Type 1} → statement M
@@ -190,17 +259,19 @@ frame-spec =
     count-waters-requires
     is-blank-requires
     returns-2
+    size-refusal-requires
     returns-3
-    returns-4
-    is-short-requires
-    returns-5
     fill-requires
-    add-mix
-    slice-reshare-prefix-mix
-    slice-aggregate-mix
-    slice-reshare-prefix-mix-2
-    slice-aggregate-mix-2
-    mix-requires
+    add-firsts
+    slice-reshare-prefix-firsts
+    slice-aggregate-firsts
+    slice-reshare-prefix-picked
+    slice-aggregate-picked
+    scan-all-requires
+    fractions-requires
+    dispersion-of-requires
+    report-of-requires
+    with-report-requires
     same-length
     same-length-2
     same-length-3
@@ -209,4 +280,4 @@ frame-spec =
     same-length-6
     same-length-7
     same-length-8
-    returns-6)
+    returns-4)

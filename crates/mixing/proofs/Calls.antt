@@ -1,0 +1,47 @@
+-- The answers of the whole frame are those of the calls that it stands for: a frame with an answer has passed every test, so that none of
+-- the calls refuses. Assumes nothing.
+use mathlib.Core.Path.{_≡_, refl, sym, _∙_}
+use mathlib.Core.List.{[]}
+use Rattle.cell.specs.Refusals.{firstRefusal}
+use Rattle.cell.specs.Limits.{frameRefusals, limitRefusals}
+use Rattle.cell.proofs.FrameRefusals.{limit-chain, frame-chain}
+use Rattle.selection.proofs.InputRefusals.{input-sound}
+use Rattle.clusters.proofs.Scans.{scanned-closes}
+use Rattle.dispersion.proofs.Answers.{dispersion-answered}
+use Rattle.tree.proofs.TreeRefusals.{test-none, call-room}
+use Rattle.report.specs.Report.{reportRoom, reportRefusal, reportAnswer}
+use Rattle.mixing.specs.Frame.{Frame, Tables, startList, pickNumbers, treeIn, mixedAnswer}
+use Rattle.mixing.specs.Calls.{AnswersAsCalls}
+use Rattle.mixing.proofs.Outcomes.{Passed, roomNumber}
+use Rattle.mixing.proofs.Tested.{within-limits, valid-cell, fine, cores-fit, lists-sound, selects}
+use Rattle.mixing.proofs.Answered.{answered}
+
+module _ (f : Frame) (t : Tables) (p : Passed f t) where
+  -- Report tests the waters too
+  limits-hold : firstRefusal (limitRefusals (f .cell) (f .solutes) (f .waters) []) ≡ 0
+  limits-hold =
+      let w = within-limits f (p .within) in
+      limit-chain (f .cell) (f .solutes) (f .waters) []
+      ∙ rw (w .solutes-whole, w .waters-whole, w .solutes-few, w .waters-few, w .bounds-within, w .solutes-within, w .waters-within)
+
+  frame-fine : firstRefusal (frameRefusals (f .cell) (f .solutes) (f .waters)) ≡ 0
+  frame-fine = frame-chain (f .cell) (f .solutes) (f .waters) ∙ rw (limits-hold, valid-cell f t p)
+
+  report-refuses : reportRefusal (f .cell) (f .solutes) (f .waters) (startList f) (pickNumbers f) (t .centerOrder) (t .waterOrder) (t .records) (t .boxes) (t .leaves) ≡ roomNumber f t
+  unfolding reportRefusal treeIn
+  report-refuses =
+      let input = input-sound (f .cell) (f .solutes) (f .waters) (startList f) (pickNumbers f) frame-fine (lists-sound f t p) in
+      call-room (f .cell) (f .solutes) (f .waters) (startList f) (pickNumbers f) (t .centerOrder) (t .waterOrder) (reportRoom (t .records) (t .boxes) (t .leaves))
+      (sym (test-none (f .cell) (f .solutes) (f .waters) (startList f) (pickNumbers f) (t .centerOrder) (t .waterOrder) (sym input) (cores-fit f t p .1 .0) (cores-fit f t p .1 .1)))
+
+pub as-calls : AnswersAsCalls
+unfolding mixedAnswer reportAnswer
+as-calls f t copies picks largest contacted pair dispersion nodes depth leaves dry h =
+    let a = answered f t (sym h) in
+    let p = a .passed in
+    record {
+      select = sym (selects f t p .0) ∙ cc (a .is);
+      close = scanned-closes (f .cell) (f .solutes) (startList f) (pickNumbers f) (t .clusters) (fine f t p) (cores-fit f t p .0 .1) ∙ cc (a .is);
+      disperse = sym (dispersion-answered (f .cell) (f .solutes) (startList f) (pickNumbers f) 0 (sym (fine f t p)) refl dispersion (cc (a .is)));
+      report = rw (report-refuses f t p, a .unrefused) (cc (a .is));
+    }
