@@ -1,6 +1,6 @@
 -- What read_block owes, by its refusal: 14, 7 or none, and then the answer and the three tables.
 -- Assumes nothing.
-use mathlib.Core.Path.{_≡_, refl, sym}
+use mathlib.Core.Path.{_≡_}
 use mathlib.Core.Bool.{Bool, true, false, _||_}
 use mathlib.Core.List.{List}
 use Prim.Native.Nat.{ℕ, suc, _*_, _≤_}
@@ -24,11 +24,7 @@ use Rattle.block.specs.Block.{
   solutesOf,
   watersOf,
   blockRefusal,
-  blockNumber,
-  blockValues,
-  blockCell,
-  valuesRead,
-  cellRead,
+  blockAnswer,
   indicesAfter,
   solutesAfter,
   watersAfter,
@@ -68,18 +64,16 @@ module _ (b is : List ℕ) (ss ws : List Float) where
         for-waters = ltb-false (length ws) (waterCount b * 3) (sw .1);
       }
 
-  -- the six promises, of an answer and of the tables afterwards
+  -- the four promises, of an answer and of the tables afterwards
   abbrev pub Owed : Block → List ℕ → List Float → List Float → Type 0
   Owed r is₁ ss₁ ws₁ =
-      (blockNumber r ≡ blockRefusal b is ss ws)
-      × ((blockValues r ≡ valuesRead b is ss ws)
-      × ((blockCell r ≡ cellRead b is ss ws)
-      × ((is₁ ≡ indicesAfter b is ss ws) × ((ss₁ ≡ solutesAfter b is ss ws) × (ws₁ ≡ watersAfter b is ss ws)))))
+      (r ≡ blockAnswer b is ss ws)
+      × ((is₁ ≡ indicesAfter b is ss ws) × ((ss₁ ≡ solutesAfter b is ss ws) × (ws₁ ≡ watersAfter b is ss ws)))
 
   pub refused : (m : ℕ) → blockRefusal b is ss ws ≡ suc m → Owed (Refused (suc m)) is ss ws
-  unfolding valuesRead cellRead indicesAfter solutesAfter watersAfter
-  refused m e = (sym e, (rw e, (rw e, (rw e, (rw e, rw e)))))
+  unfolding blockAnswer indicesAfter solutesAfter watersAfter
+  refused m e = (rw e, (rw e, (rw e, rw e)))
 
   pub taken : blockRefusal b is ss ws ≡ 0 → Owed (Frame (perCopy b) (soluteAtoms b) (indexCount b) (waterCount b) (cellOf b)) (over (indicesOf b) is) (over (solutesOf b) ss) (over (watersOf b) ws)
-  unfolding valuesRead cellRead indicesAfter solutesAfter watersAfter
-  taken e = (sym e, (rw e, (rw e, (rw e, (rw e, rw e)))))
+  unfolding blockAnswer indicesAfter solutesAfter watersAfter
+  taken e = (rw e, (rw e, (rw e, rw e)))

@@ -9,6 +9,7 @@ use lib.Ieee.{Float, nan, binary32, ofBits}
 use Rattle.cell.specs.declared.Vec3.{Vec3}
 use Rattle.cell.specs.Refusals.{firstRefusal}
 use Rattle.cell.specs.Tables.{over}
+use Rattle.block.specs.declared.Block.the-variants.{Refused, Frame}
 use Rattle.block.specs.Block.{
   halfAt,
   wordAt,
@@ -21,8 +22,7 @@ use Rattle.block.specs.Block.{
   solutesOf,
   watersOf,
   blockRefusal,
-  valuesRead,
-  cellRead,
+  blockAnswer,
   indicesAfter,
   solutesAfter,
   watersAfter,
@@ -68,21 +68,19 @@ ones n = replicate n (f 0x3f80_0000)
 pub record Checked : Type 0 where
   pub length-word : lengthWord listed ≡ 78
   pub is-block : isBlock listed ≡ true
-  pub accepted : blockRefusal listed (9 ∷ []) (ones 7) (ones 4) ≡ 0
-  pub values : valuesRead listed (9 ∷ []) (ones 7) (ones 4) ≡ 1 ∷ 2 ∷ 0 ∷ 1 ∷ []
-  pub cell : cellRead listed (9 ∷ []) (ones 7) (ones 4) ≡ record { low = alike 0; high = alike 0x4180_0000 } ∷ []
+  pub answer : blockAnswer listed (9 ∷ []) (ones 7) (ones 4) ≡ Frame 1 2 0 1 (record { low = alike 0; high = alike 0x4180_0000 })
   -- each table begins with its part, and keeps the rest
   pub indices : indicesAfter listed (9 ∷ []) (ones 7) (ones 4) ≡ 9 ∷ []
   pub solutes : solutesAfter listed (9 ∷ []) (ones 7) (ones 4) ≡ f 0x4000_0000 ∷ f 0x4000_0000 ∷ f 0x4000_0000 ∷ f 0x4080_0000 ∷ f 0x4000_0000 ∷ f 0x4000_0000 ∷ f 0x3f80_0000 ∷ []
   pub waters : watersAfter listed (9 ∷ []) (ones 7) (ones 4) ≡ f 0x40c0_0000 ∷ f 0x40c0_0000 ∷ f 0x40c0_0000 ∷ f 0x3f80_0000 ∷ []
   -- a table too short for its part is 7, and nothing is written
-  pub short-table : blockRefusal listed [] (ones 5) (ones 4) ≡ 7
+  pub short-table : blockAnswer listed [] (ones 5) (ones 4) ≡ Refused 7
   pub unchanged : watersAfter listed [] (ones 5) (ones 4) ≡ ones 4
   -- one byte less, one more, another kind, and no byte at all
-  pub cut : blockRefusal (take 81 listed) [] (ones 6) (ones 3) ≡ 14
-  pub longer : blockRefusal (listed ++ (0 ∷ [])) [] (ones 6) (ones 3) ≡ 14
-  pub other-kind : blockRefusal (headed (small 78) 2 (small 1) (small 2) (small 0) (small 1) ++ coordinates) [] (ones 6) (ones 3) ≡ 14
-  pub empty : blockRefusal [] [] [] [] ≡ 14
+  pub cut : blockAnswer (take 81 listed) [] (ones 6) (ones 3) ≡ Refused 14
+  pub longer : blockAnswer (listed ++ (0 ∷ [])) [] (ones 6) (ones 3) ≡ Refused 14
+  pub other-kind : blockAnswer (headed (small 78) 2 (small 1) (small 2) (small 0) (small 1) ++ coordinates) [] (ones 6) (ones 3) ≡ Refused 14
+  pub empty : blockAnswer [] [] [] [] ≡ Refused 14
   -- 2 ^ 30 indices: four times that comes round to 0 in 32 bits, and the length would be 42
   pub comes-round : isBlock (headed (small 42) 1 (small 1) (small 0) two (small 0)) ≡ false
   -- the same with none is a block
@@ -102,8 +100,7 @@ unfolding
     solutesOf
     watersOf
     blockRefusal
-    valuesRead
-    cellRead
+    blockAnswer
     indicesAfter
     solutesAfter
     watersAfter
@@ -114,9 +111,7 @@ checked =
     record {
       length-word = refl;
       is-block = refl;
-      accepted = refl;
-      values = refl;
-      cell = refl;
+      answer = refl;
       indices = refl;
       solutes = refl;
       waters = refl;

@@ -17,9 +17,9 @@ use Rattle.block.specs.declared.Block.the-variants.{Refused, Frame}
 unfoldable pub halfAt : List ℕ → ℕ → ℕ
 halfAt b p = getD b p 0 + getD b (p + 1) 0 * 256
 
--- u32
+-- u32, its lower half first
 unfoldable pub wordAt : List ℕ → ℕ → ℕ
-wordAt b p = getD b p 0 + getD b (p + 1) 0 * 256 + getD b (p + 2) 0 * 65536 + getD b (p + 3) 0 * 16777216
+wordAt b p = halfAt b p + halfAt b (p + 2) * 65536
 
 -- f32; every NaN's pattern is a NaN
 unfoldable pub floatAt : List ℕ → ℕ → Float
@@ -96,26 +96,12 @@ blockRefusal b is ss ws =
     ∷ refuse 7 (ltb (length is) (indexCount b) || (ltb (length ss) (soluteAtoms b * 3) || ltb (length ws) (waterCount b * 3)))
     ∷ [])
 
--- the number of each case of an answer: a refusal's own, 0 for a frame
-abbrev pub blockNumber : Block → ℕ
-blockNumber (Refused n) = n
-blockNumber (Frame per s k w c) = 0
-
--- the values of each case: none with a refusal; a frame's atoms per copy, solute atoms, indices and waters
-abbrev pub blockValues : Block → List ℕ
-blockValues (Refused n) = []
-blockValues (Frame per s k w c) = per ∷ s ∷ k ∷ w ∷ []
-
--- the cell of each case: none with a refusal
-abbrev pub blockCell : Block → List Cell
-blockCell (Refused n) = []
-blockCell (Frame per s k w c) = c ∷ []
-
-unfoldable pub valuesRead : List ℕ → List ℕ → List Float → List Float → List ℕ
-valuesRead b is ss ws = unlessRefused (blockRefusal b is ss ws) (perCopy b ∷ soluteAtoms b ∷ indexCount b ∷ waterCount b ∷ []) []
-
-unfoldable pub cellRead : List ℕ → List ℕ → List Float → List Float → List Cell
-cellRead b is ss ws = unlessRefused (blockRefusal b is ss ws) (cellOf b ∷ []) []
+-- a refusal by its number, or the frame's atoms per copy, solute atoms, indices, waters and cell
+unfoldable pub blockAnswer : List ℕ → List ℕ → List Float → List Float → Block
+blockAnswer b is ss ws =
+    unlessRefused (blockRefusal b is ss ws)
+    (Frame (perCopy b) (soluteAtoms b) (indexCount b) (waterCount b) (cellOf b))
+    (Refused (blockRefusal b is ss ws))
 
 -- the three tables afterwards
 unfoldable pub indicesAfter : List ℕ → List ℕ → List Float → List Float → List ℕ

@@ -4,12 +4,12 @@ ghost use mathlib.Core.Path.{_≡_};
 ghost use Prim.Native.Nat.{_+_, _*_, _^_, _<_, _≤_};
 ghost use lib.ListN.{length, getD};
 ghost use Rattle.cell.specs.Tables.{over};
-ghost use Rattle.block.specs.Block.{halfAt, wordAt, floatAt, wordsFrom, floatsFrom, isBlock, cellOf, blockRefusal, blockNumber, blockValues, blockCell, valuesRead, cellRead, indicesAfter, solutesAfter, watersAfter};
+ghost use Rattle.block.specs.Block.{halfAt, wordAt, floatAt, wordsFrom, floatsFrom, isBlock, cellOf, blockAnswer, indicesAfter, solutesAfter, watersAfter};
 use cell::Cell;
 use cell::Vec3;
 
 // The bytes of a block, at most, with its length word.
-const MAX_BLOCK: usize = 60000;
+pub const MAX_BLOCK: usize = 60000;
 
 // The bytes before a block's indices.
 const HEADER: usize = 46;
@@ -37,7 +37,7 @@ fn byte(bytes: &[u8], at: usize) -> u32
 // The little-endian numbers of two and of four bytes.
 fn half(bytes: &[u8], at: usize) -> u32
     requires { ⌜ at + 2 ≤ length (now bytes) ⌝ }
-    ensures { λ r. ⌜ r ≡ halfAt (now (bytes .entry)) at ⌝ }
+    ensures { λ r. ⌜ (r ≡ halfAt (now (bytes .entry)) at) × (r < 2 ^ 16) ⌝ }
 {
     byte(bytes, at) + byte(bytes, at + 1) * 256
 }
@@ -46,10 +46,7 @@ fn word(bytes: &[u8], at: usize) -> u32
     requires { ⌜ at + 4 ≤ length (now bytes) ⌝ }
     ensures { λ r. ⌜ r ≡ wordAt (now (bytes .entry)) at ⌝ }
 {
-    byte(bytes, at)
-        + byte(bytes, at + 1) * 256
-        + byte(bytes, at + 2) * 65536
-        + byte(bytes, at + 3) * 16777216
+    half(bytes, at) + half(bytes, at + 2) * 65536
 }
 
 // A number of atoms, indices or waters.
@@ -142,9 +139,7 @@ pub fn read_block(
     solutes: &mut [f32],
     waters: &mut [f32],
 ) -> Block
-    ensures answer { λ r. ⌜ blockNumber r ≡ blockRefusal (now (bytes .entry)) (now (indices .entry)) (now (solutes .entry)) (now (waters .entry)) ⌝ }
-    ensures values { λ r. ⌜ blockValues r ≡ valuesRead (now (bytes .entry)) (now (indices .entry)) (now (solutes .entry)) (now (waters .entry)) ⌝ }
-    ensures cell { λ r. ⌜ blockCell r ≡ cellRead (now (bytes .entry)) (now (indices .entry)) (now (solutes .entry)) (now (waters .entry)) ⌝ }
+    ensures answer { λ r. ⌜ r ≡ blockAnswer (now (bytes .entry)) (now (indices .entry)) (now (solutes .entry)) (now (waters .entry)) ⌝ }
     ensures indices_after { λ r. ⌜ now (indices .exit) ≡ indicesAfter (now (bytes .entry)) (now (indices .entry)) (now (solutes .entry)) (now (waters .entry)) ⌝ }
     ensures solutes_after { λ r. ⌜ now (solutes .exit) ≡ solutesAfter (now (bytes .entry)) (now (indices .entry)) (now (solutes .entry)) (now (waters .entry)) ⌝ }
     ensures waters_after { λ r. ⌜ now (waters .exit) ≡ watersAfter (now (bytes .entry)) (now (indices .entry)) (now (solutes .entry)) (now (waters .entry)) ⌝ }

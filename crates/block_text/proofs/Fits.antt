@@ -1,30 +1,30 @@
 -- A block's parts fit the tables that the program lends, so that only 14 refuses its bytes, and what is read is the block's frame.
 -- Assumes nothing.
-use mathlib.Core.Path.{_≡_, refl, sym, ap, _∙_}
+use mathlib.Core.Path.{_≡_, refl, ap}
 use mathlib.Core.Bool.{Bool, true, false, cond, and-eq-true-iff}
-use mathlib.Core.List.{List, [], _∷_}
+use mathlib.Core.List.{List}
 use Prim.Native.Nat.{ℕ, _+_, _*_, _≤_}
 use native.Mathlib.Omega.{arith}
 use lib.Dec.{leb}
-use lib.ListN.{length, getD, take, drop}
+use lib.ListN.{length, take, drop}
 use lib.Seq.{take-at}
 use lib.Ieee.{Float}
 use borrow.Author.Tests.{leb-true, le-ltb}
 use Rattle.cell.specs.declared.Cell.{Cell}
-use Rattle.cell.specs.Tables.{over, unlessRefused}
+use Rattle.cell.specs.Tables.{over}
 use Rattle.block.specs.declared.Block.the-variants.{Refused, Frame}
-use Rattle.block.specs.Block.{isBlock, perCopy, soluteAtoms, indexCount, waterCount, cellOf, indicesOf, solutesOf, watersOf, wordAt, floatAt, blockRefusal, valuesRead, cellRead, indicesAfter, solutesAfter, watersAfter}
+use Rattle.block.specs.Block.{maxBlock, isBlock, perCopy, soluteAtoms, indexCount, waterCount, cellOf, indicesOf, solutesOf, watersOf, wordAt, floatAt, blockRefusal}
 use Rattle.block.proofs.Header.{block-length}
 use Rattle.block.proofs.Reading.{length-values}
-use Rattle.block.proofs.Answers.{Owed, cramped, no-block, read}
+use Rattle.block.proofs.Answers.{Owed, cramped, no-block, read, refused, taken}
 use Rattle.listing.specs.Listing.{refusedText}
 use Rattle.mixing.specs.Frame.{given}
 use Rattle.block_text.specs.Printed.{frameIn, programTables, frameText, printed}
 
--- at most 60,000 bytes hold so much
-small : (b : List ℕ) → isBlock b ≡ true → 46 + 4 * indexCount b + 12 * (soluteAtoms b + waterCount b) ≤ 60000
+-- what a block holds has at most so many bytes
+small : (b : List ℕ) → isBlock b ≡ true → 46 + 4 * indexCount b + 12 * (soluteAtoms b + waterCount b) ≤ maxBlock
 unfolding isBlock
-small b e = omega (arith, block-length b e, leb-true (length b) 60000 (and-eq-true-iff (leb (length b) 60000) _ .0 e .0))
+small b e = omega (arith, block-length b e, leb-true (length b) maxBlock (and-eq-true-iff (leb (length b) maxBlock) _ .0 e .0))
 
 -- what was read of a block: its numbers and cell, and its parts at the start of the tables
 pub record Read (b is : List ℕ) (ss ws : List Float) (per s k w : ℕ) (c : Cell) (is₁ : List ℕ) (ss₁ ws₁ : List Float) : Type 0 where
@@ -53,35 +53,33 @@ module _ (b is : List ℕ) (ss ws : List Float) (li : length is ≡ 14988) (ls :
 
   -- a refusal is 14
   pub refused-14 : (n : ℕ) (is₁ : List ℕ) (ss₁ ws₁ : List Float) → Owed b is ss ws (Refused n) is₁ ss₁ ws₁ → refusedText n ≡ printed b
-  unfolding printed valuesRead
+  unfolding printed
   refused-14 n is₁ ss₁ ws₁ o = by-block (isBlock b) refl
     where
       by-block : (x : Bool) → isBlock b ≡ x → refusedText n ≡ cond x (frameText (frameIn b) programTables) (refusedText 14)
-      by-block true e = absurd (omega (arith, ap length (o .1 .0 ∙ ap (λ (r : ℕ). unlessRefused r (perCopy b ∷ soluteAtoms b ∷ indexCount b ∷ waterCount b ∷ []) []) (none e))))
-      by-block false e = ap refusedText (o .0 ∙ no-block b is ss ws e)
+      by-block true e = let t = taken b is ss ws (none e) .0 in let z : _≡_ {A = ℕ} 0 1 = cc in absurd (omega arith)
+      by-block false e = let t = refused b is ss ws 13 (no-block b is ss ws e) .0 in let z : n ≡ 14 = cc in ap refusedText z
 
   -- a frame is the block's
   pub read-frame : (per s k w : ℕ) (c : Cell) (is₁ : List ℕ) (ss₁ ws₁ : List Float) → Owed b is ss ws (Frame per s k w c) is₁ ss₁ ws₁
       → Read b is ss ws per s k w c is₁ ss₁ ws₁
-  unfolding valuesRead cellRead indicesAfter solutesAfter watersAfter
   read-frame per s k w c is₁ ss₁ ws₁ o = by-block (isBlock b) refl
     where
       by-block : (x : Bool) → isBlock b ≡ x → Read b is ss ws per s k w c is₁ ss₁ ws₁
       by-block true e =
-          let z = rw (none e) at o in
-          let v : (i : ℕ) → getD (per ∷ s ∷ k ∷ w ∷ []) i 0 ≡ getD (perCopy b ∷ soluteAtoms b ∷ indexCount b ∷ waterCount b ∷ []) i 0 = λ i. ap (λ (l : List ℕ). getD l i 0) (z .1 .0) in
+          let t = taken b is ss ws (none e) in
           record {
             block = e;
-            per-is = v 0;
-            s-is = v 1;
-            k-is = v 2;
-            w-is = v 3;
-            cell-is = ap (λ (l : List Cell). getD l 0 c) (z .1 .1 .0);
-            indices-are = z .1 .1 .1 .0;
-            solutes-are = z .1 .1 .1 .1 .0;
-            waters-are = z .1 .1 .1 .1 .1;
+            per-is = cc;
+            s-is = cc;
+            k-is = cc;
+            w-is = cc;
+            cell-is = cc;
+            indices-are = cc;
+            solutes-are = cc;
+            waters-are = cc;
           }
-      by-block false e = absurd (omega (arith, o .0 ∙ no-block b is ss ws e))
+      by-block false e = let t = refused b is ss ws 13 (no-block b is ss ws e) .0 in let z : _≡_ {A = ℕ} 0 1 = cc in absurd (omega arith)
 
 -- ---- the parts, as they are handed on
 module _ {b is : List ℕ} {ss ws : List Float} {per s k w : ℕ} {c : Cell} {is₁ : List ℕ} {ss₁ ws₁ : List Float} (r : Read b is ss ws per s k w c is₁ ss₁ ws₁) where

@@ -1,8 +1,11 @@
 // The text that program `frame` prints for a block (document 01): the block is read, the whole frame worked out, and its answer listed.
-// Beside what the whole frame keeps on its stack there are the tables of the program, about 600,000 bytes.
+// Beside what the whole frame keeps on its stack there are the tables of the program, about 530,000 bytes.
 ghost use mathlib.Core.Path.{_≡_};
 ghost use mathlib.Core.Bool.{false};
-ghost use Rattle.listing.specs.Listing.{listedNumber, listedValues, textRefusal, textValues, textAfter};
+ghost use Prim.Native.Nat.{_≤_};
+ghost use lib.ListN.{length};
+ghost use Rattle.cell.specs.Tables.{over};
+ghost use Rattle.listing.specs.Listing.{textAnswer, textAfter};
 ghost use Rattle.mixing.specs.Frame.{given};
 ghost use Rattle.block_text.specs.Printed.{programTables, frameText, printed};
 use block::Block;
@@ -10,7 +13,11 @@ use cell::Cell;
 use listing::Listed;
 use mixing::FrameAnswer;
 
-// The text of a frame, worked out in tables of the program's sizes.
+// The bytes that a text has at most: a listing's lines besides the leaves have 162, and each of 2,048 leaves has 116, where every
+// number has twenty digits.
+pub const TEXT_ROOM: usize = 162 + 2048 * 116;
+
+// The text of a frame, worked out in tables of the program's sizes: 7, or the bytes written.
 fn put_frame(
     cell: Cell,
     solutes: &[f32],
@@ -19,8 +26,7 @@ fn put_frame(
     waters: &[f32],
     out: &mut [u8],
 ) -> Listed
-    ensures answer { λ r. ⌜ listedNumber r ≡ textRefusal false (frameText (given cell (now (solutes .entry)) per (now (indices .entry)) (now (waters .entry))) programTables) (now (out .entry)) ⌝ }
-    ensures values { λ r. ⌜ listedValues r ≡ textValues false (frameText (given cell (now (solutes .entry)) per (now (indices .entry)) (now (waters .entry))) programTables) (now (out .entry)) ⌝ }
+    ensures answer { λ r. ⌜ r ≡ textAnswer false (frameText (given cell (now (solutes .entry)) per (now (indices .entry)) (now (waters .entry))) programTables) (now (out .entry)) ⌝ }
     ensures after { λ r. ⌜ now (out .exit) ≡ textAfter false (frameText (given cell (now (solutes .entry)) per (now (indices .entry)) (now (waters .entry))) programTables) (now (out .entry)) ⌝ }
 {
     let mut starts = [0u32; 4097];
@@ -75,10 +81,9 @@ fn put_frame(
     }
 }
 
-// What is printed for the bytes that were read: 7, or the bytes written.
-pub fn put_text(bytes: &[u8], out: &mut [u8]) -> Listed
-    ensures answer { λ r. ⌜ listedNumber r ≡ textRefusal false (printed (now (bytes .entry))) (now (out .entry)) ⌝ }
-    ensures values { λ r. ⌜ listedValues r ≡ textValues false (printed (now (bytes .entry))) (now (out .entry)) ⌝ }
+// The text of the bytes that were read: 7, or the bytes written.
+fn put_block(bytes: &[u8], out: &mut [u8]) -> Listed
+    ensures answer { λ r. ⌜ r ≡ textAnswer false (printed (now (bytes .entry))) (now (out .entry)) ⌝ }
     ensures after { λ r. ⌜ now (out .exit) ≡ textAfter false (printed (now (bytes .entry))) (now (out .entry)) ⌝ }
 {
     let mut indices = [0u32; 14988];
@@ -100,5 +105,17 @@ pub fn put_text(bytes: &[u8], out: &mut [u8]) -> Listed
             &waters[..w * 3],
             out,
         ),
+    }
+}
+
+// Writes what is printed for the bytes that were read, and answers how many bytes that is: every text fits the buffer.
+pub fn put_text(bytes: &[u8], out: &mut [u8; TEXT_ROOM]) -> usize
+    ensures written { λ r. ⌜ (r ≡ length (printed (now (bytes .entry)))) × (r ≤ length (now (out .exit))) ⌝ }
+    ensures after { λ r. ⌜ now (out .exit) ≡ over (printed (now (bytes .entry))) (now (out .entry)) ⌝ }
+{
+    match put_block(bytes, out) {
+        Listed::Written(n) => n,
+        // never: there is room
+        Listed::Refused(_) => 0,
     }
 }

@@ -8,6 +8,7 @@ use lib.Ieee.{Float, binary32, ofBits, toBits}
 use Rattle.cell.specs.Refusals.{firstRefusal}
 use Rattle.cell.specs.Tables.{over}
 use Rattle.listing.specs.Text.{ascii, glyph, digits, placesIn, places, decimal, hex}
+use Rattle.listing.specs.declared.Listed.the-variants.{Written, Refused}
 use Rattle.listing.specs.Listing.{
   hexBits,
   occupancy,
@@ -22,7 +23,7 @@ use Rattle.listing.specs.Listing.{
   listingText,
   leavesMissing,
   textRefusal,
-  textValues,
+  textAnswer,
   textAfter,
 }
 
@@ -44,10 +45,9 @@ listed = ascii "clusters 2 3F800000 3F800000 3F800000\ndispersion 3E800000\nnode
 
 pub record Checked : Type 0 where
   pub listing : listingText 2 one one one quarter 6 3 leaves 2 2 ≡ listed
-  pub accepted : textRefusal (leavesMissing leaves 2) listed (replicate 200 0) ≡ 0
-  pub bytes : textValues (leavesMissing leaves 2) listed (replicate 200 0) ≡ 156 ∷ []
+  pub bytes : textAnswer (leavesMissing leaves 2) listed (replicate 200 0) ≡ Written 156
   -- more leaves than the table has
-  pub missing : textRefusal (leavesMissing leaves 3) listed (replicate 200 0) ≡ 7
+  pub missing : textAnswer (leavesMissing leaves 3) listed (replicate 200 0) ≡ Refused 7
   -- numbers
   pub zero-decimal : decimal 0 ≡ ascii "0"
   pub ten-decimal : decimal 10 ≡ ascii "10"
@@ -79,7 +79,7 @@ unfolding
     dryLine
     listingText
     textRefusal
-    textValues
+    textAnswer
     textAfter
     firstRefusal
     over
@@ -88,7 +88,6 @@ unfolding
 checked =
     record {
       listing = refl;
-      accepted = refl;
       bytes = refl;
       missing = refl;
       zero-decimal = refl;

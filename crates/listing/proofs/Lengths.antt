@@ -1,17 +1,18 @@
--- How many bytes the lines have, and whether the leaves' lines have room, a line at a time.
+-- How many bytes the lines have, and how many at most; and whether the leaves' lines have room, a line at a time.
 -- Assumes nothing.
 use mathlib.Core.Path.{_≡_, refl, sym, _∙_}
+use mathlib.Core.Bool.{Bool, true, false, cond}
 use mathlib.Core.List.{List, [], _++_}
-use Prim.Native.Nat.{ℕ, zero, suc, _+_, _-_, _≤_, _<_}
+use Prim.Native.Nat.{ℕ, zero, suc, _+_, _-_, _*_, _≤_, _<_}
 use native.Mathlib.Decide.{decLe}
 use native.Mathlib.Omega.{arith}
-use lib.Dec.{leb}
+use lib.Dec.{leb, eqb}
 use lib.ListN.{length, getD, length-append}
 use lib.Ieee.{Float, binary32, toBits}
 use borrow.Author.Tests.{le-leb, lt-leb}
-use Rattle.listing.specs.Text.{places, decimal, hex}
+use Rattle.listing.specs.Text.{ascii, places, decimal, hex}
 use Rattle.listing.specs.Listing.{hexBits, occupancy, refusedText, clustersLine, dispersionLine, nodesLine, leafLine, leafLines, dryLine, listingText}
-use Rattle.listing.proofs.Numerals.{length-digits}
+use Rattle.listing.proofs.Numerals.{length-digits, places-few}
 
 pub length-decimal : (n : ℕ) → length (decimal n) ≡ places n
 unfolding decimal
@@ -69,6 +70,40 @@ leaves-more t n i p h = leaves-some t (n - i) (n - (i + 1)) p (omega arith)
 
 pub leaves-length : (t : List ℕ) (n i p : ℕ) → i < n → length (leafLines t (n - i) p) ≡ length (leafLine t p) + length (leafLines t (n - (i + 1)) (p + 8))
 leaves-length t n i p h = rw (leaves-more t n i p h) (length-append (leafLine t p) (leafLines t (n - (i + 1)) (p + 8)))
+
+-- ---- at most so many bytes: a number has twenty digits at most, an occupancy eight
+pub refused-few : (n : ℕ) → length (refusedText n) ≤ 29
+refused-few n = omega (arith, length-refused n, places-few n)
+
+occupancy-few : (w : ℕ) → length (occupancy w) ≤ 8
+unfolding occupancy
+occupancy-few w = by-word (eqb w 0)
+  where
+    by-word : (b : Bool) → length (cond b (ascii "dry") (hex w)) ≤ 8
+    by-word true = omega arith
+    by-word false = omega (arith, length-hex w)
+
+leaf-few : (t : List ℕ) (p : ℕ) → length (leafLine t p) ≤ 116
+leaf-few t p =
+    omega (
+      arith,
+      length-leaf t p,
+      places-few (getD t p 0),
+      places-few (getD t (p + 1) 0),
+      places-few (getD t (p + 2) 0),
+      occupancy-few (getD t (p + 3) 0),
+      places-few (getD t (p + 4) 0),
+      occupancy-few (getD t (p + 5) 0),
+    )
+
+leaves-few : (t : List ℕ) (n p : ℕ) → length (leafLines t n p) ≤ n * 116
+unfolding leafLines
+leaves-few t zero p = omega arith
+leaves-few t (suc n) p = omega (arith, length-append (leafLine t p) (leafLines t n (p + 8)), leaf-few t p, leaves-few t n (p + 8))
+
+pub listing-few : (copies : ℕ) (x y z d : Float) (nodes depth : ℕ) (t : List ℕ) (count dry : ℕ) → length (listingText copies x y z d nodes depth t count dry) ≤ 162 + count * 116
+listing-few copies x y z d nodes depth t count dry =
+    omega (arith, length-listing copies x y z d nodes depth t count dry, places-few copies, places-few nodes, places-few depth, places-few dry, leaves-few t count 0)
 
 -- a line that fits takes its bytes of the room; with one that does not, nothing fits
 pub fits-less : (n m left : ℕ) → n ≤ left → leb (n + m) left ≡ leb m (left - n)

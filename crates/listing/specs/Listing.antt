@@ -75,22 +75,13 @@ abbrev pub leavesMissing : List ℕ → ℕ → Bool
 leavesMissing t count = ltb (length t) (count * 8)
 
 -- ---- what a call that writes a text answers, and the buffer afterwards
--- the number of each case of an answer: a refusal's own, 0 for a text
-abbrev pub listedNumber : Listed → ℕ
-listedNumber (Written n) = 0
-listedNumber (Refused n) = n
-
--- the values of each case: the bytes written, none with a refusal
-abbrev pub listedValues : Listed → List ℕ
-listedValues (Written n) = n ∷ []
-listedValues (Refused n) = []
-
 -- 7, a lent table is too short: what is to be listed is missing, or the buffer has no room for the text
 unfoldable pub textRefusal : Bool → List ℕ → List ℕ → ℕ
 textRefusal missing text out = firstRefusal (refuse 7 (missing || ltb (length out) (length text)) ∷ [])
 
-unfoldable pub textValues : Bool → List ℕ → List ℕ → List ℕ
-textValues missing text out = unlessRefused (textRefusal missing text out) (length text ∷ []) []
+-- the bytes written, or a refusal by its number
+unfoldable pub textAnswer : Bool → List ℕ → List ℕ → Listed
+textAnswer missing text out = unlessRefused (textRefusal missing text out) (Written (length text)) (Refused (textRefusal missing text out))
 
 unfoldable pub textAfter : Bool → List ℕ → List ℕ → List ℕ
 textAfter missing text out = unlessRefused (textRefusal missing text out) (over text out) out

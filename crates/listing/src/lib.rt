@@ -2,7 +2,7 @@
 // The text's length is counted before its first byte is written, so that a refusal changes nothing.
 ghost use mathlib.Core.Path.{_≡_};
 ghost use mathlib.Core.Bool.{false};
-ghost use Rattle.listing.specs.Listing.{refusedText, blankText, listingText, leavesMissing, listedNumber, listedValues, textRefusal, textValues, textAfter};
+ghost use Rattle.listing.specs.Listing.{refusedText, blankText, listingText, leavesMissing, textAnswer, textAfter};
 
 // sizes.rt: how many bytes a text has
 mod sizes;
@@ -19,8 +19,7 @@ pub enum Listed {
 
 // `refused` and the number: 7, or the bytes written.
 pub fn put_refused(n: u32, out: &mut [u8]) -> Listed
-    ensures answer { λ r. ⌜ listedNumber r ≡ textRefusal false (refusedText n) (now (out .entry)) ⌝ }
-    ensures values { λ r. ⌜ listedValues r ≡ textValues false (refusedText n) (now (out .entry)) ⌝ }
+    ensures answer { λ r. ⌜ r ≡ textAnswer false (refusedText n) (now (out .entry)) ⌝ }
     ensures after { λ r. ⌜ now (out .exit) ≡ textAfter false (refusedText n) (now (out .entry)) ⌝ }
 {
     let number = n as usize;
@@ -33,8 +32,7 @@ pub fn put_refused(n: u32, out: &mut [u8]) -> Listed
 
 // `blank`: 7, or the bytes written.
 pub fn put_blank(out: &mut [u8]) -> Listed
-    ensures answer { λ r. ⌜ listedNumber r ≡ textRefusal false blankText (now (out .entry)) ⌝ }
-    ensures values { λ r. ⌜ listedValues r ≡ textValues false blankText (now (out .entry)) ⌝ }
+    ensures answer { λ r. ⌜ r ≡ textAnswer false blankText (now (out .entry)) ⌝ }
     ensures after { λ r. ⌜ now (out .exit) ≡ textAfter false blankText (now (out .entry)) ⌝ }
 {
     if out.len() < 6 {
@@ -57,8 +55,7 @@ pub fn put_listing(
     dry: usize,
     out: &mut [u8],
 ) -> Listed
-    ensures answer { λ r. ⌜ listedNumber r ≡ textRefusal (leavesMissing (now (leaves .entry)) count) (listingText copies largest contacted pair dispersion nodes depth (now (leaves .entry)) count dry) (now (out .entry)) ⌝ }
-    ensures values { λ r. ⌜ listedValues r ≡ textValues (leavesMissing (now (leaves .entry)) count) (listingText copies largest contacted pair dispersion nodes depth (now (leaves .entry)) count dry) (now (out .entry)) ⌝ }
+    ensures answer { λ r. ⌜ r ≡ textAnswer (leavesMissing (now (leaves .entry)) count) (listingText copies largest contacted pair dispersion nodes depth (now (leaves .entry)) count dry) (now (out .entry)) ⌝ }
     ensures after { λ r. ⌜ now (out .exit) ≡ textAfter (leavesMissing (now (leaves .entry)) count) (listingText copies largest contacted pair dispersion nodes depth (now (leaves .entry)) count dry) (now (out .entry)) ⌝ }
 {
     if leaves.len() / 8 < count {

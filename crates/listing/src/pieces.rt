@@ -1,6 +1,5 @@
 // Words, numbers and floats, each written with the byte after it. A piece is written from entry `at` on, and answers where it ends.
 ghost use mathlib.Core.Path.{_≡_};
-ghost use mathlib.Core.Bool.{cond};
 ghost use Prim.Native.Nat.{_+_, _<_, _≤_};
 ghost use lib.ListN.{length};
 ghost use Rattle.cell.specs.Tables.{placed};

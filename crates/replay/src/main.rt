@@ -2,9 +2,9 @@
 // byte for byte with the listing recorded beside it. Prints how many blocks there were and how many agreed, and the number of the
 // first, from 0, that did not. The file (oracle/README.md, 'Recorded answers') is a count, then for each block its length, its bytes,
 // the length of its listing and the listing; counts and lengths are four bytes, the lowest first.
+use block_text::TEXT_ROOM;
 use libc::STDIN_FILENO;
 use libc::STDOUT_FILENO;
-use listing::Listed;
 ghost use Prim.Native.Nat.{_+_, _^_, _≤_, _<_};
 ghost use lib.ListN.{length};
 
@@ -48,11 +48,9 @@ fn equal(a: &[u8], b: &[u8]) -> bool {
 
 // Whether a block's text is its recorded listing.
 fn agrees(block: &[u8], recorded: &[u8]) -> bool {
-    let mut out = [0u8; 262144];
-    match block_text::put_text(block, &mut out) {
-        Listed::Refused(_) => false,
-        Listed::Written(n) => equal(&out[..n], recorded),
-    }
+    let mut out = [0u8; TEXT_ROOM];
+    let n = block_text::put_text(block, &mut out);
+    equal(&out[..n], recorded)
 }
 
 // A record: the bytes that it takes up, 0 where the file is cut off in it, and whether it agrees.

@@ -22,7 +22,7 @@ add-result c = search needs
 
 returns : tie.Need-returns
 unfolding halfAt
-returns c = omega arith
+returns c = (omega arith, omega arith)
 
 pub half-spec : {M : Type 1} → statement M
 half-spec =

@@ -17,7 +17,7 @@ half-requires : tie.Need-half-requires
 half-requires c κs = search needs
 
 returns-3 : tie.Need-returns-3
-returns-3 c = sym (other-kind-no-block _ (λ e. c .if3 .taken (c .before .half .ensures ∙ e)))
+returns-3 c = sym (other-kind-no-block _ (λ e. c .if3 .taken (c .before .half .ensures .0 ∙ e)))
 
 count-requires : tie.Need-count-requires
 count-requires c κs = search needs
@@ -57,7 +57,7 @@ returns-5 c =
     let e = c .before .before .before .before .before in
     let b = e .before .before .before .before .before .args .bytes .now in
     rw (c .before .before .before .before .count .ensures .0)
-    (sym (end-decides b (e .before .before .if2 .left) (sym (e .before .half .ensures) ∙ e .if3 .left) (omega arith)))
+    (sym (end-decides b (e .before .before .if2 .left) (sym (e .before .half .ensures .0) ∙ e .if3 .left) (omega arith)))
 
 pub is-block-spec : {M : Type 1} → statement M
 is-block-spec =

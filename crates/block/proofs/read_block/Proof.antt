@@ -103,18 +103,12 @@ returns-3 c =
     let k = e .before .before .count2 .ensures .0 in
     let w = e .before .count3 .ensures .0 in
     let t = taken (a .bytes .now) (a .indices .now) (a .solutes .now) (a .waters .now) (read _ _ _ _ (whole (e .before .before .before .before)) (sym (tested (e .before)) ∙ e .if2 .left)) in (
-      t .0,
+      rw (c .before .count4 .ensures .0, s, k, w, c .read-cell .ensures) (t .0),
       (
-        rw (c .before .count4 .ensures .0, s, k, w) (t .1 .0),
+        rw k at (c .before .before .before .before .before .before .before .before .before .before .before .before .read-words .ensures) ∙ t .1 .0,
         (
-          rw (c .read-cell .ensures) (t .1 .1 .0),
-          (
-            rw k at (c .before .before .before .before .before .before .before .before .before .before .before .before .read-words .ensures) ∙ t .1 .1 .1 .0,
-            (
-              rw (s, k) at (c .before .before .before .before .before .before .before .before .read-floats .ensures) ∙ t .1 .1 .1 .1 .0,
-              rw (s, k, w) at (c .before .before .before .before .read-floats2 .ensures) ∙ t .1 .1 .1 .1 .1,
-            ),
-          ),
+          rw (s, k) at (c .before .before .before .before .before .before .before .before .read-floats .ensures) ∙ t .1 .1 .0,
+          rw (s, k, w) at (c .before .before .before .before .read-floats2 .ensures) ∙ t .1 .1 .1,
         ),
       ),
     )

@@ -1,18 +1,18 @@
--- `block::word` meets its contract: the definition over the four bytes. Assumes nothing.
+-- `block::word` meets its contract: the definition over the two halves. Assumes nothing.
 use native.Mathlib.Omega.{arith}
 use borrow.Author.Needs.{needs}
 use Rattle.block.specs.Block.{wordAt}
 use Rattle.block.proofs.word.Statement.{statement}
 use Rattle.block.proofs.word.Tie as tie
 
-byte-requires : tie.Need-byte-requires
-byte-requires c κs = search needs
+half-requires : tie.Need-half-requires
+half-requires c κs = search needs
 
-add-byte : tie.Need-add-byte
-add-byte c = search needs
+add-half : tie.Need-add-half
+add-half c = search needs
 
-byte-requires-2 : tie.Need-byte-requires-2
-byte-requires-2 c κs = search needs
+half-requires-2 : tie.Need-half-requires-2
+half-requires-2 c κs = search needs
 
 mul-result : tie.Need-mul-result
 mul-result c = search needs
@@ -20,49 +20,10 @@ mul-result c = search needs
 add-result : tie.Need-add-result
 add-result c = search needs
 
-add-byte-2 : tie.Need-add-byte-2
-add-byte-2 c = search needs
-
-byte-requires-3 : tie.Need-byte-requires-3
-byte-requires-3 c κs = search needs
-
-mul-result-2 : tie.Need-mul-result-2
-mul-result-2 c = search needs
-
-add-result-2 : tie.Need-add-result-2
-add-result-2 c = search needs
-
-add-byte-3 : tie.Need-add-byte-3
-add-byte-3 c = search needs
-
-byte-requires-4 : tie.Need-byte-requires-4
-byte-requires-4 c κs = search needs
-
-mul-result-3 : tie.Need-mul-result-3
-mul-result-3 c = search needs
-
-add-result-3 : tie.Need-add-result-3
-add-result-3 c = search needs
-
 returns : tie.Need-returns
 unfolding wordAt
 returns c = omega arith
 
 pub word-spec : {M : Type 1} → statement M
 word-spec =
-    tie.close
-    (tie.spec
-    byte-requires
-    add-byte
-    byte-requires-2
-    mul-result
-    add-result
-    add-byte-2
-    byte-requires-3
-    mul-result-2
-    add-result-2
-    add-byte-3
-    byte-requires-4
-    mul-result-3
-    add-result-3
-    returns)
+    tie.close (tie.spec half-requires add-half half-requires-2 mul-result add-result returns)

@@ -1,11 +1,28 @@
--- `block_text::put_frame` meets its contract: each case of the whole frame's answer has its text (Texts). Assumes nothing.
-use mathlib.Core.Path.{ap}
-use Rattle.mixing.specs.Frame.{Tables, given}
-use Rattle.block_text.specs.Printed.{programTables}
-use Rattle.block_text.proofs.Texts.{refused-text, blank-text, listing-text, none-missing}
+-- `block_text::put_frame` meets its contract: each case of the whole frame's answer has the frame's text (`text`). Assumes nothing.
+use mathlib.Core.Path.{_≡_, ap}
+use mathlib.Core.List.{List}
+use Prim.Native.Nat.{ℕ}
+use Rattle.mixing.specs.declared.FrameAnswer.{FrameAnswer}
+use Rattle.mixing.specs.Frame.{Frame, Tables, given}
+use Rattle.block_text.specs.Printed.{programTables, answerText, frameText}
+use Rattle.block_text.proofs.Texts.{answer-text, none-missing}
 use borrow.Author.Needs.{needs}
 use Rattle.block_text.proofs.put_frame.Statement.{statement}
 use Rattle.block_text.proofs.put_frame.Tie as tie
+
+-- the frame that was handed on, and the leaf table after it
+abbrev handed : tie.After-frame → Frame
+handed c =
+    let a = c .before .before .before .before .before .before .before .before .before .before .before .before .before .args in
+    given (a .cell) (a .solutes .now) (a .per) (a .indices .now) (a .waters .now)
+
+abbrev left : tie.After-frame → List ℕ
+left c = c .frame .last .1 .1 .1 .1 .1 .1 .1 .1 .1 .1 .1 .1 .0
+
+-- the case r of its answer has the frame's text
+text : (c : tie.After-frame) {r : FrameAnswer} → c .frame .result ≡ r → answerText r (left c) ≡ frameText (handed c) programTables
+unfolding programTables
+text c {r} e = answer-text (handed c) programTables r (left c) (rw e at (c .frame .ensures .0)) (ap (λ (t : Tables). t .leaves) (c .frame .ensures .1))
 
 slice-aggregate-frame : tie.Need-slice-aggregate-frame
 slice-aggregate-frame c = search needs
@@ -59,21 +76,13 @@ same-length : tie.Need-same-length
 same-length c = search needs
 
 returns : tie.Need-returns
-unfolding programTables
-returns c =
-    let st = c .before .before .before .before .before .before .before .before .before .before .before .before .before .before .before .before .before .before .before .before .before .before .before .before .before .before .before .before in
-    let f = given (st .args .cell) (st .args .solutes .now) (st .args .per) (st .args .indices .now) (st .args .waters .now) in
-    rw (← refused-text f programTables _ (rw (c .before .before .before .before .before .number .given .1) at (c .before .before .before .before .before .before .before .before .before .before .before .before .before .before .before .frame .ensures .0))) (c .before .before .put-refused .ensures)
+returns c = rw (← text (c .before .before .before .before .before .before .before .before .before .before .before .before .before .before .before) (c .before .before .before .before .before .number .given .1)) (c .before .before .put-refused .ensures)
 
 same-length-2 : tie.Need-same-length-2
 same-length-2 c = search needs
 
 returns-2 : tie.Need-returns-2
-unfolding programTables
-returns-2 c =
-    let st = c .before .before .before .before .before .before .before .before .before .before .before .before .before .before .before .before .before .before .before .before .before .before .before .before .before .before .before in
-    let f = given (st .args .cell) (st .args .solutes .now) (st .args .per) (st .args .indices .now) (st .args .waters .now) in
-    rw (← blank-text f programTables (rw (c .before .before .before .before .enum-told .given .1) at (c .before .before .before .before .before .before .before .before .before .before .before .before .before .before .frame .ensures .0))) (c .before .before .put-blank .ensures)
+returns-2 c = rw (← text (c .before .before .before .before .before .before .before .before .before .before .before .before .before .before) (c .before .before .before .before .enum-told .given .1)) (c .before .before .put-blank .ensures)
 
 same-length-3 : tie.Need-same-length-3
 same-length-3 c = search needs
@@ -81,12 +90,10 @@ same-length-3 c = search needs
 returns-3 : tie.Need-returns-3
 unfolding programTables
 returns-3 c =
-    let st = c .before .before .before .before .before .before .before .before .before .before .before .before .before .before .before .before .before .before .before .before .before .before .before .before .before .before .before .before .before in
-    let f = given (st .args .cell) (st .args .solutes .now) (st .args .per) (st .args .indices .now) (st .args .waters .now) in
-    let answered = rw (c .before .before .before .before .before .before .copies .given .1) at (c .before .before .before .before .before .before .before .before .before .before .before .before .before .before .before .before .frame .ensures .0) in
-    let left = ap (λ (t : Tables). t .leaves) (c .before .before .before .before .before .before .before .before .before .before .before .before .before .before .before .before .frame .ensures .1) in
-    let there = none-missing f programTables _ _ _ _ _ _ _ _ _ _ answered (c .before .before .before .before .before .before .before .before .before .before .before .before .before .before .before .before .frame .last .1 .1 .1 .1 .1 .1 .1 .1 .1 .1 .1 .1 .0) (search needs) in
-    rw (← listing-text f programTables _ _ _ _ _ _ _ _ _ _ answered (c .before .before .before .before .before .before .before .before .before .before .before .before .before .before .before .before .frame .last .1 .1 .1 .1 .1 .1 .1 .1 .1 .1 .1 .1 .0) left) (rw there at (c .before .before .put-listing .ensures))
+    let fc = c .before .before .before .before .before .before .before .before .before .before .before .before .before .before .before .before in
+    let mixed = c .before .before .before .before .before .before .copies .given .1 in
+    let there = none-missing (handed fc) programTables (rw mixed at (fc .frame .ensures .0)) (left fc) (search needs) in
+    rw (← text fc mixed) (rw there at (c .before .before .put-listing .ensures))
 
 pub put-frame-spec : {M : Type 1} → statement M
 put-frame-spec =

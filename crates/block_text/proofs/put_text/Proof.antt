@@ -1,107 +1,42 @@
--- `block_text::put_text` meets its contract: a refusal of the reader is 14, and a frame that was read is the block's (Fits).
--- Assumes nothing.
-use mathlib.Core.Path.{sym}
-use native.Mathlib.Omega.{arith}
-use lib.Seq.{length-take-le}
-use lib.ListN.{replicate, length-replicate}
-use lib.Ieee.{Float, binary32, ofBits}
+-- `block_text::put_text` meets its contract: every text fits the buffer (Room), so that it is written whole. Assumes nothing.
+use mathlib.Core.Path.{_≡_}
 use Prim.Native.Nat.{ℕ}
-use Rattle.block_text.proofs.Fits.{Read, refused-14, read-frame, text-read, counts-fit}
+use native.Mathlib.Omega.{arith}
+use lib.ListN.{length}
+use Rattle.listing.proofs.Answers.{whole}
+use Rattle.block_text.specs.Printed.{printed, textRoom}
+use Rattle.block_text.proofs.Room.{printed-fits}
 use borrow.Author.Needs.{needs}
 use Rattle.block_text.proofs.put_text.Statement.{statement}
 use Rattle.block_text.proofs.put_text.Tie as tie
 
--- what was read is the block's frame
-got : (c : tie.After-per) →
-    Read (c .before .before .before .before .before .before .before .before .before .before .before .args .bytes .now) (replicate 14988 0) (replicate 14988 (ofBits binary32 0)) (replicate 14988 (ofBits binary32 0))
-    (c .per .given .0 .0) (c .per .given .0 .1 .0) (c .per .given .0 .1 .1 .0) (c .per .given .0 .1 .1 .1 .0) (c .per .given .0 .1 .1 .1 .1 .0)
-    (c .before .before .before .before .before .read-block .last .1 .0) (c .before .before .before .before .before .read-block .last .1 .1 .0) (c .before .before .before .before .before .read-block .last .1 .1 .1 .0)
-got c =
-    read-frame _ _ _ _ (length-replicate {A = ℕ} 14988 0) (length-replicate {A = Float} 14988 (ofBits binary32 0)) (length-replicate {A = Float} 14988 (ofBits binary32 0)) _ _ _ _ _ _ _ _
-    (rw (c .per .given .1) at (c .before .before .before .before .before .read-block .ensures))
+put-block-requires : tie.Need-put-block-requires
+put-block-requires c κs = search needs
 
-slice-aggregate-read-block : tie.Need-slice-aggregate-read-block
-slice-aggregate-read-block c = search needs
+enum-known-n : tie.Need-enum-known-n
+enum-known-n c = search needs
 
-slice-aggregate-read-block-2 : tie.Need-slice-aggregate-read-block-2
-slice-aggregate-read-block-2 c = search needs
-
-slice-aggregate-read-block-3 : tie.Need-slice-aggregate-read-block-3
-slice-aggregate-read-block-3 c = search needs
-
-read-block-requires : tie.Need-read-block-requires
-read-block-requires c κs = search needs
-
-enum-known-number : tie.Need-enum-known-number
-enum-known-number c = search needs
-
-put-refused-requires : tie.Need-put-refused-requires
-put-refused-requires c κs = search needs
-
-enum-known-per : tie.Need-enum-known-per
-enum-known-per c = search needs
-
-mul-solutes : tie.Need-mul-solutes
-mul-solutes c = omega (arith, counts-fit (got (c .before)))
-
-array-share-prefix-solutes : tie.Need-array-share-prefix-solutes
-array-share-prefix-solutes c = search (needs, counts-fit (got (c .before)))
-
-slice-aggregate-put-frame : tie.Need-slice-aggregate-put-frame
-slice-aggregate-put-frame c = sym (length-take-le _ _ (search (needs, counts-fit (got (c .before .before)))))
-
-array-share-prefix-indices : tie.Need-array-share-prefix-indices
-array-share-prefix-indices c = search (needs, counts-fit (got (c .before .before)))
-
-slice-aggregate-put-frame-2 : tie.Need-slice-aggregate-put-frame-2
-slice-aggregate-put-frame-2 c = sym (length-take-le _ _ (search (needs, counts-fit (got (c .before .before .before)))))
-
-mul-waters : tie.Need-mul-waters
-mul-waters c = omega (arith, counts-fit (got (c .before .before .before)))
-
-array-share-prefix-waters : tie.Need-array-share-prefix-waters
-array-share-prefix-waters c = search (needs, counts-fit (got (c .before .before .before)))
-
-slice-aggregate-put-frame-3 : tie.Need-slice-aggregate-put-frame-3
-slice-aggregate-put-frame-3 c = sym (length-take-le _ _ (search (needs, counts-fit (got (c .before .before .before .before)))))
-
-put-frame-requires : tie.Need-put-frame-requires
-put-frame-requires c κs = search needs
-
-same-length : tie.Need-same-length
-same-length c = search needs
+enum-told : tie.Need-enum-told
+enum-told c = search needs
 
 returns : tie.Need-returns
 returns c =
-    rw (← refused-14 _ _ _ _ (length-replicate {A = ℕ} 14988 0) (length-replicate {A = Float} 14988 (ofBits binary32 0)) (length-replicate {A = Float} 14988 (ofBits binary32 0)) _ _ _ _ (rw (c .before .before .before .before .before .number .given .1) at (c .before .before .before .before .before .before .before .before .before .before .read-block .ensures))) (c .before .before .put-refused .ensures)
-
-same-length-2 : tie.Need-same-length-2
-same-length-2 c = search needs
+    let a = c .before .before .before .before .before .before .args in
+    let text = printed (a .bytes .now) in
+    let fits = printed-fits (a .bytes .now) in
+    let w = whole text (a .out .now) (search (needs, fits)) (rw (c .before .n .given .1) at (c .before .before .before .put-block .ensures)) in
+    let n : c .before .n .given .0 .0 ≡ length text = cc in
+    let same : length (c .before .before .before .put-block .last .1 .0) ≡ textRoom = search needs in
+    ((n, omega (arith, n, fits, same)), w .1)
 
 returns-2 : tie.Need-returns-2
-returns-2 c = rw (text-read (got (c .before .before .before .before .before .before .before .before))) at (c .before .before .put-frame .ensures)
+returns-2 c =
+    let a = c .before .before .before .before .before .args in
+    let text = printed (a .bytes .now) in
+    let fits = printed-fits (a .bytes .now) in
+    let w = whole text (a .out .now) (search (needs, fits)) (rw (c .enum-told .given .1) at (c .before .before .put-block .ensures)) in
+    let never : _≡_ {A = ℕ} 0 1 = cc in
+    absurd (omega (arith, never))
 
 pub put-text-spec : {M : Type 1} → statement M
-put-text-spec =
-    tie.close
-    (tie.spec
-    slice-aggregate-read-block
-    slice-aggregate-read-block-2
-    slice-aggregate-read-block-3
-    read-block-requires
-    enum-known-number
-    put-refused-requires
-    enum-known-per
-    mul-solutes
-    array-share-prefix-solutes
-    slice-aggregate-put-frame
-    array-share-prefix-indices
-    slice-aggregate-put-frame-2
-    mul-waters
-    array-share-prefix-waters
-    slice-aggregate-put-frame-3
-    put-frame-requires
-    same-length
-    returns
-    same-length-2
-    returns-2)
+put-text-spec = tie.close (tie.spec put-block-requires enum-known-n enum-told returns returns-2)

@@ -1,0 +1,2 @@
+-- The input of program `frame`.
+pub mod Input
