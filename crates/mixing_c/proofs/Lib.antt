@@ -1,5 +1,5 @@
 -- The laws that the proofs of this crate cite.
--- the words of an answers table, one at a time
-pub mod Writing
 -- counts that fit a word
 pub mod Small
+-- the number of a call's answer
+pub mod Numbers

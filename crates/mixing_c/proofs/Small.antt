@@ -1,35 +1,37 @@
 -- The counts that Select, Tree, Report and the whole frame answer fit a word: within the limits copies, picks, nodes and leaves are few, and no tree is
 -- deeper than 14. Assumes nothing.
-use mathlib.Core.Path.{_≡_, refl, sym, _∙_}
+use mathlib.Core.Path.{_≡_, refl, sym, subst, ap}
 use mathlib.Core.Bool.{Bool, true, false, cond, _&&_}
-use mathlib.Core.List.{List, [], _∷_, _++_}
+use mathlib.Core.List.{List, [], _∷_}
 use Prim.Native.Nat.{ℕ, zero, suc, _+_, _^_, _≤_, _<_}
 use native.Mathlib.Omega.{arith}
-use lib.Dec.{eqb, ltb}
+use lib.Dec.{eqb}
 use lib.ListN.{length, getD}
 use lib.Ieee.{Float}
-use borrow.Author.Tests.{ltb-true, ltb-false}
 use Rattle.cell.specs.declared.Cell.{Cell}
 use Rattle.cell.specs.Refusals.{firstRefusal}
 use Rattle.cell.specs.Tables.{unlessRefused}
-use Rattle.selection.specs.Selection.{keptCopies, joined, selectRefusal, selectValues}
-use Rattle.selection.proofs.SoundSelect.{select-room, select-sound}
-use Rattle.octree.specs.Bounds.{cellBox}
-use Rattle.octree.specs.Tree.{Node, deepest, treeRefusal}
+use Rattle.selection.specs.declared.Selected.the-variants as selected
+use Rattle.selection.specs.Selection.{keptCopies, joined, selectRefusal, selectAnswer, valuesOf}
+use Rattle.selection.proofs.SoundSelect.{select-room}
+use Rattle.octants.specs.Bounds.{cellBox}
+use Rattle.nodes.specs.Nodes.{Node, deepest}
 use Rattle.octree.proofs.Counting.{nodes-within}
+use Rattle.tree.specs.declared.TreeAnswer.the-variants as tree
 use Rattle.tree.specs.Points.{treeCenters, treeWaters}
-use Rattle.tree.specs.Tree.{frameTree, testRefusals, treeCallRefusal, treeCallValues}
+use Rattle.tree.specs.Tree.{frameTree, testRefusals, treeCallRefusal, treeAnswer, treeAnswered}
 use Rattle.tree.proofs.TreeRefusals.{Tested, tested, call-tested}
-use Rattle.report.specs.Report.{isReported, reportedLeaves, dryLeaves, reportRoom, reportValues}
+use Rattle.report.specs.declared.Reported.the-variants as report
+use Rattle.report.specs.Report.{isReported, reportedLeaves, dryLeaves, reportAnswer, reportAnswered}
 use Rattle.report.proofs.LeafList.{reported-few}
 use Rattle.report.proofs.ReportOutcomes.{nodes-small}
-use Rattle.mixing.specs.Frame.{Frame, Tables, kept, startList, pickNumbers, treeIn, limited, blankHolds, short, Outcome, refused, blankOutcome, mixedOutcome, frameOutcome}
-use Rattle.mixing.proofs.Outcomes.{outcome-limit, outcome-blank, outcome-5, outcome-6, outcome-7, outcome-worked}
-use Rattle.mixing.proofs.Tested.{waters-few}
-
--- each of the values fits a word
-abbrev pub Small : List ℕ → Type 0
-Small vs = (k : ℕ) → getD vs k 0 < 2 ^ 32
+use Rattle.mixing.specs.declared.FrameAnswer.{FrameAnswer}
+use Rattle.mixing.specs.declared.FrameAnswer.the-variants.{Refused, Blank, Mixed}
+use Rattle.mixing.specs.Frame.{Frame, Tables, kept, startList, pickNumbers, treeIn, mixedAnswer, frameAnswer}
+use Rattle.mixing.proofs.Outcomes.{Passed}
+use Rattle.mixing.proofs.Tested.{room, waters-few, lists-sound}
+use Rattle.mixing.proofs.Answered.{answered}
+use Rattle.answers.specs.Interface.{Small, frameCounts}
 
 small-none : Small []
 small-none zero = omega arith
@@ -42,18 +44,21 @@ small-more v vs h f (suc k) = f k
 small-two : (a b : ℕ) → a < 2 ^ 32 → b < 2 ^ 32 → Small (a ∷ b ∷ [])
 small-two a b h g = small-more a (b ∷ []) h (small-more b [] g small-none)
 
--- a refusal has no values
-small-unless : (r : ℕ) (vs : List ℕ) → (r ≡ 0 → Small vs) → Small (unlessRefused r vs [])
-small-unless zero vs f = f refl
-small-unless (suc r) vs f = small-none
+-- the values of a success x, or of a refusal y
+small-unless : {A : Type 0} (values : A → List ℕ) (r : ℕ) (x y : A) → (r ≡ 0 → Small (values x)) → Small (values y) → Small (values (unlessRefused r x y))
+small-unless values zero x y f g = f refl
+small-unless values (suc r) x y f g = g
 
-pub select-small : (solutes : List Float) (per : ℕ) (indices starts picks : List ℕ) → Small (selectValues solutes per indices starts picks)
-unfolding selectValues
+pub select-small : (solutes : List Float) (per : ℕ) (indices starts picks : List ℕ) → Small (valuesOf (selectAnswer solutes per indices starts picks))
+unfolding selectAnswer
 select-small solutes per indices starts picks =
     let cs = keptCopies solutes per indices in
-    small-unless (selectRefusal solutes per indices starts picks) (length cs ∷ length (joined cs) ∷ []) (λ e.
+    let r = selectRefusal solutes per indices starts picks in
+    small-unless valuesOf r (selected.Kept (length cs) (length (joined cs))) (selected.Refused r)
+    (λ e.
     let room = select-room solutes per indices starts picks e in
     small-two (length cs) (length (joined cs)) (omega (arith, room .few)) (omega (arith, room .short)))
+    small-none
 
 -- ---- trees
 deepest-most : (vs : List Node) → ((v₀ : Node) (i : ℕ) → i < length vs → getD vs i v₀ .depth ≤ 14) → deepest vs ≤ 14
@@ -71,6 +76,10 @@ dry-few (v ∷ vs) = by-test (isReported v) (eqb (v .waters) 0) (dry-few vs)
     by-test true false h = omega arith
     by-test false b h = omega arith
 
+-- nodes, greatest depth, reported leaves and dry leaves
+abbrev fourCounts : List Node → List ℕ
+fourCounts vs = length vs ∷ deepest vs ∷ reportedLeaves vs ∷ dryLeaves vs ∷ []
+
 module _ (c : Cell) (solutes waters : List Float) (starts picks : List ℕ) where
   depth-few : deepest (frameTree c solutes waters starts picks .nodes) ≤ 14
   unfolding frameTree
@@ -78,8 +87,7 @@ module _ (c : Cell) (solutes waters : List Float) (starts picks : List ℕ) wher
       deepest-most (frameTree c solutes waters starts picks .nodes)
       (λ v₀ i h. nodes-within (cellBox c) (treeCenters c solutes starts picks) (treeWaters c waters) v₀ i h .shallow)
 
-  leaves-small : length (frameTree c solutes waters starts picks .nodes) < 2 ^ 32 → Small (reportValues (frameTree c solutes waters starts picks .nodes))
-  unfolding reportValues
+  leaves-small : length (frameTree c solutes waters starts picks .nodes) < 2 ^ 32 → Small (fourCounts (frameTree c solutes waters starts picks .nodes))
   leaves-small few =
       let vs = frameTree c solutes waters starts picks .nodes in
       let two = small-two (reportedLeaves vs) (dryLeaves vs) (omega (arith, few, reported-few vs)) (omega (arith, few, reported-few vs, dry-few vs)) in
@@ -98,58 +106,40 @@ module _ (c : Cell) (solutes waters : List Float) (starts picks centerOrder wate
   nodes-few : treeCallRefusal c solutes waters starts picks centerOrder waterOrder room ≡ 0 → length (frameTree c solutes waters starts picks .nodes) < 2 ^ 32
   nodes-few e = nodes-small c solutes waters starts picks (passed e .sound) (passed e .waters-few)
 
-  pub tree-small : (r : ℕ) → r ≡ treeCallRefusal c solutes waters starts picks centerOrder waterOrder room → Small (treeCallValues r (frameTree c solutes waters starts picks))
-  unfolding treeCallValues
-  tree-small r h =
+  pub tree-small : Small (treeAnswered (treeAnswer (treeCallRefusal c solutes waters starts picks centerOrder waterOrder room) (frameTree c solutes waters starts picks)))
+  tree-small =
+      let r = treeCallRefusal c solutes waters starts picks centerOrder waterOrder room in
       let vs = frameTree c solutes waters starts picks .nodes in
-      small-unless r (length vs ∷ deepest vs ∷ []) (λ z. small-two (length vs) (deepest vs) (nodes-few (sym h ∙ z)) (omega (arith, depth-few c solutes waters starts picks)))
+      small-unless treeAnswered r (tree.Nodes (length vs) (deepest vs)) (tree.Refused r)
+      (λ z. small-two (length vs) (deepest vs) (nodes-few z) (omega (arith, depth-few c solutes waters starts picks))) small-none
 
-  pub report-small : (r : ℕ) → r ≡ treeCallRefusal c solutes waters starts picks centerOrder waterOrder room → Small (unlessRefused r (reportValues (frameTree c solutes waters starts picks .nodes)) [])
-  report-small r h = small-unless r (reportValues (frameTree c solutes waters starts picks .nodes)) (λ z. leaves-small c solutes waters starts picks (nodes-few (sym h ∙ z)))
+  pub report-small : Small (reportAnswered (reportAnswer (treeCallRefusal c solutes waters starts picks centerOrder waterOrder room) (frameTree c solutes waters starts picks .nodes)))
+  unfolding reportAnswer
+  report-small =
+      let r = treeCallRefusal c solutes waters starts picks centerOrder waterOrder room in
+      let vs = frameTree c solutes waters starts picks .nodes in
+      small-unless reportAnswered r (report.Leaves (length vs) (deepest vs) (reportedLeaves vs) (dryLeaves vs)) (report.Refused r)
+      (λ z. leaves-small c solutes waters starts picks (nodes-few z)) small-none
 
 -- ---- the whole frame
-small-both : (xs ys : List ℕ) → Small xs → Small ys → Small (xs ++ ys)
-small-both [] ys f g k = g k
-small-both (x ∷ xs) ys f g zero = f 0
-small-both (x ∷ xs) ys f g (suc k) = small-both xs ys (λ j. f (suc j)) g k
-
--- a frame is refused, blank or answered, test by test
 module _ (f : Frame) (t : Tables) where
-  -- an outcome with no counts
-  none-counted : (o : Outcome) → o .counts ≡ [] → o ≡ frameOutcome f t → Small (frameOutcome f t .counts)
-  none-counted o n e k = rw (← e, n) (small-none k)
-
-  worked-small : firstRefusal (limited f) ≡ 0 → length (kept f) ≤ 4096 → length (pickNumbers f) ≤ 65536 → Small (mixedOutcome f t .counts)
-  unfolding mixedOutcome treeIn startList pickNumbers kept
-  worked-small e few light =
-      small-both (selectValues (f .solutes) (f .per) (f .indices) (t .starts) (t .picks)) (reportValues (treeIn f .nodes))
-      (select-small (f .solutes) (f .per) (f .indices) (t .starts) (t .picks))
+  mixed-small : Passed f t → Small (frameCounts (mixedAnswer f t))
+  unfolding mixedAnswer treeIn
+  mixed-small p =
+      let fits = room f t p in
+      let vs = treeIn f .nodes in
+      small-more (length (kept f)) (length (pickNumbers f) ∷ fourCounts vs) (omega (arith, fits .few))
+      (small-more (length (pickNumbers f)) (fourCounts vs) (omega (arith, fits .light))
       (leaves-small (f .cell) (f .solutes) (f .waters) (startList f) (pickNumbers f)
-      (nodes-small (f .cell) (f .solutes) (f .waters) (startList f) (pickNumbers f) (select-sound (f .solutes) (f .per) (f .indices) few light) (waters-few f e)))
+      (nodes-small (f .cell) (f .solutes) (f .waters) (startList f) (pickNumbers f) (lists-sound f t p) (waters-few f (p .within)))))
 
-  pub frame-small : Small (frameOutcome f t .counts)
-  frame-small = by-limits (firstRefusal (limited f)) refl
+  -- a refusal and blank have no counts
+  pub frame-small : Small (frameCounts (frameAnswer f t))
+  frame-small = by-case (frameAnswer f t) refl
     where
-      by-report : (e : firstRefusal (limited f) ≡ 0) (s : blankHolds f ≡ false) (few : length (kept f) ≤ 4096) (light : length (pickNumbers f) ≤ 65536) (room : short f t ≡ false) (r : ℕ) → r ≡ treeRefusal (reportRoom (t .records) (t .boxes) (t .leaves)) (treeIn f) → Small (frameOutcome f t .counts)
-      by-report e s few light room zero h k = rw (outcome-worked f t e s few light room zero h) (worked-small e few light k)
-      by-report e s few light room (suc r) h k = rw (outcome-worked f t e s few light room (suc r) h) (small-none k)
-
-      by-room : (e : firstRefusal (limited f) ≡ 0) (s : blankHolds f ≡ false) (few : length (kept f) ≤ 4096) (light : length (pickNumbers f) ≤ 65536) (b : Bool) → short f t ≡ b → Small (frameOutcome f t .counts)
-      by-room e s few light true h = none-counted (refused 7) refl (outcome-7 f t e s few light h .0)
-      by-room e s few light false h = by-report e s few light h (treeRefusal (reportRoom (t .records) (t .boxes) (t .leaves)) (treeIn f)) refl
-
-      by-picks : (e : firstRefusal (limited f) ≡ 0) (s : blankHolds f ≡ false) (few : length (kept f) ≤ 4096) (b : Bool) → ltb 65536 (length (pickNumbers f)) ≡ b → Small (frameOutcome f t .counts)
-      by-picks e s few true h = none-counted (refused 6) refl (outcome-6 f t e s few (ltb-true 65536 (length (pickNumbers f)) h) .0)
-      by-picks e s few false h = by-room e s few (ltb-false 65536 (length (pickNumbers f)) h) (short f t) refl
-
-      by-copies : (e : firstRefusal (limited f) ≡ 0) (s : blankHolds f ≡ false) (b : Bool) → ltb 4096 (length (kept f)) ≡ b → Small (frameOutcome f t .counts)
-      by-copies e s true h = none-counted (refused 5) refl (outcome-5 f t e s (ltb-true 4096 (length (kept f)) h) .0)
-      by-copies e s false h = let few = ltb-false 4096 (length (kept f)) h in by-picks e s few (ltb 65536 (length (pickNumbers f))) refl
-
-      by-blank : firstRefusal (limited f) ≡ 0 → (b : Bool) → blankHolds f ≡ b → Small (frameOutcome f t .counts)
-      by-blank e true h = none-counted blankOutcome refl (outcome-blank f t e h .0)
-      by-blank e false h = by-copies e h (ltb 4096 (length (kept f))) refl
-
-      by-limits : (r : ℕ) → r ≡ firstRefusal (limited f) → Small (frameOutcome f t .counts)
-      by-limits zero h = by-blank (sym h) (blankHolds f) refl
-      by-limits (suc r) h = none-counted (refused (suc r)) refl (outcome-limit f t (suc r) h (λ z. omega arith) .0)
+      by-case : (a : FrameAnswer) → a ≡ frameAnswer f t → Small (frameCounts a)
+      by-case (Refused n) e = small-none
+      by-case Blank e = small-none
+      by-case (Mixed copies picks largest contacted pair dispersion nodes depth leaves dry) e =
+          let a = answered f t e in
+          subst Small (sym (ap frameCounts (a .is))) (mixed-small (a .passed))

@@ -1,21 +1,16 @@
 // The C interface: every call of document 01 over numbers and slices, as include/baithrum.h declares it. The result is the refusal's
 // number, 0 for success. The values of an answer go to the lent table `answers`, as many of them as it holds, floats as bits.
 ghost use mathlib.Core.Path.{_≡_};
-ghost use mathlib.Core.List.{[]};
-ghost use Rattle.cell.specs.Tables.{unlessRefused};
 ghost use Rattle.selection.specs.Sound.{copiesIn};
-ghost use Rattle.selection.specs.Selection.{selectRefusal, selectValues, selectStarts, selectPicks};
-ghost use Rattle.clusters.specs.Answers.{openRefusal, openLeaves, rowRefusal, rowLeaves, closeRefusal, closeFractions};
+ghost use Rattle.selection.specs.Selection.{selectRefusal, selectAnswer, valuesOf, selectStarts, selectPicks};
+ghost use Rattle.clusters.specs.Answers.{openRefusal, openLeaves, rowRefusal, rowLeaves, closeRefusal, closeAnswer, fractionsOf};
 ghost use Rattle.dispersion.specs.Centers.{centersRefusal, centersLeaves};
-ghost use Rattle.dispersion.specs.Dispersion.{dispersionRefusal};
+ghost use Rattle.dispersion.specs.Dispersion.{dispersionRefusal, dispersionAnswer, dispersedValues};
 ghost use Rattle.tree.specs.Points.{finiteWaters};
-ghost use Rattle.tree.specs.Tree.{frameTree, wholeRecords, treeCallRefusal, treeCallValues, centerOrderAfter, waterOrderAfter, recordsAfter, boxesAfter};
-ghost use Rattle.report.specs.Report.{reportRefusal, reportValues, leavesAfter};
-ghost use Rattle.mixing.specs.Frame.{given, lent, frameOutcome, tablesAfter};
-ghost use Rattle.mixing_c.specs.Interface.{cellOf, bitsOf, answersAfter, dispersionValues, frameWords};
-
-// give.rt: an answer as its number, and its values as words of the answers table
-mod give;
+ghost use Rattle.tree.specs.Tree.{frameTree, wholeRecords, treeCallRefusal, treeAnswer, treeAnswered, centerOrderAfter, waterOrderAfter, recordsAfter, boxesAfter};
+ghost use Rattle.report.specs.Report.{reportRefusal, reportAnswer, reportAnswered, leavesAfter};
+ghost use Rattle.mixing.specs.Frame.{given, lent, frameRefusal, frameAnswer, tablesAfter};
+ghost use Rattle.answers.specs.Interface.{cellOf, bitsOf, answersAfter, frameWords};
 
 // Select answers the kept copies and the picks.
 #[no_mangle]
@@ -30,9 +25,9 @@ pub extern "C" fn baithrum_select(
     ensures number { λ r. ⌜ r ≡ selectRefusal (now (solutes .entry)) per (now (indices .entry)) (now (starts .entry)) (now (picks .entry)) ⌝ }
     ensures starts_after { λ r. ⌜ now (starts .exit) ≡ selectStarts (now (solutes .entry)) per (now (indices .entry)) (now (starts .entry)) (now (picks .entry)) ⌝ }
     ensures picks_after { λ r. ⌜ now (picks .exit) ≡ selectPicks (now (solutes .entry)) per (now (indices .entry)) (now (starts .entry)) (now (picks .entry)) ⌝ }
-    ensures answers_after { λ r. ⌜ now (answers .exit) ≡ answersAfter (selectValues (now (solutes .entry)) per (now (indices .entry)) (now (starts .entry)) (now (picks .entry))) (now (answers .entry)) ⌝ }
+    ensures answers_after { λ r. ⌜ now (answers .exit) ≡ answersAfter (valuesOf (selectAnswer (now (solutes .entry)) per (now (indices .entry)) (now (starts .entry)) (now (picks .entry)))) (now (answers .entry)) ⌝ }
 {
-    give::selected(
+    answers::selected(
         selection::select(solutes, per, indices, starts, picks),
         answers,
     )
@@ -44,7 +39,7 @@ pub extern "C" fn baithrum_open(table: &mut [u32], n: usize) -> u32
     ensures number { λ r. ⌜ r ≡ openRefusal n (now (table .entry)) ⌝ }
     ensures after { λ r. ⌜ now (table .exit) ≡ openLeaves n (now (table .entry)) ⌝ }
 {
-    give::number(clusters::open(table, n))
+    answers::number(clusters::open(table, n))
 }
 
 // Row has no answer but its number.
@@ -65,8 +60,8 @@ pub extern "C" fn baithrum_row(
     ensures number { λ r. ⌜ r ≡ rowRefusal (cellOf lx ly lz hx hy hz) (now (solutes .entry)) (now (starts .entry)) (now (picks .entry)) (now (table .entry)) i ⌝ }
     ensures after { λ r. ⌜ now (table .exit) ≡ rowLeaves (cellOf lx ly lz hx hy hz) (now (solutes .entry)) (now (starts .entry)) (now (picks .entry)) (now (table .entry)) i ⌝ }
 {
-    give::number(clusters::row(
-        give::cell(lx, ly, lz, hx, hy, hz),
+    answers::number(clusters::row(
+        answers::cell(lx, ly, lz, hx, hy, hz),
         solutes,
         starts,
         picks,
@@ -79,9 +74,9 @@ pub extern "C" fn baithrum_row(
 #[no_mangle]
 pub extern "C" fn baithrum_close(table: &[u32], answers: &mut [u32]) -> u32
     ensures number { λ r. ⌜ r ≡ closeRefusal (now (table .entry)) ⌝ }
-    ensures answers_after { λ r. ⌜ now (answers .exit) ≡ answersAfter (bitsOf (closeFractions (now (table .entry)))) (now (answers .entry)) ⌝ }
+    ensures answers_after { λ r. ⌜ now (answers .exit) ≡ answersAfter (bitsOf (fractionsOf (closeAnswer (now (table .entry))))) (now (answers .entry)) ⌝ }
 {
-    give::closing(clusters::close(table), answers)
+    answers::closing(clusters::close(table), answers)
 }
 
 // Centers has no answer but its number.
@@ -101,8 +96,8 @@ pub extern "C" fn baithrum_centers(
     ensures number { λ r. ⌜ r ≡ centersRefusal (cellOf lx ly lz hx hy hz) (now (solutes .entry)) (now (starts .entry)) (now (picks .entry)) (now (centers .entry)) ⌝ }
     ensures after { λ r. ⌜ now (centers .exit) ≡ centersLeaves (cellOf lx ly lz hx hy hz) (now (solutes .entry)) (now (starts .entry)) (now (picks .entry)) (now (centers .entry)) ⌝ }
 {
-    give::number(dispersion::centers(
-        give::cell(lx, ly, lz, hx, hy, hz),
+    answers::number(dispersion::centers(
+        answers::cell(lx, ly, lz, hx, hy, hz),
         solutes,
         starts,
         picks,
@@ -125,10 +120,15 @@ pub extern "C" fn baithrum_dispersion(
     answers: &mut [u32],
 ) -> u32
     ensures number { λ r. ⌜ r ≡ dispersionRefusal (cellOf lx ly lz hx hy hz) (now (solutes .entry)) (now (starts .entry)) (now (picks .entry)) ⌝ }
-    ensures answers_after { λ r. ⌜ now (answers .exit) ≡ answersAfter (bitsOf (dispersionValues (cellOf lx ly lz hx hy hz) (now (solutes .entry)) (now (starts .entry)) (now (picks .entry)))) (now (answers .entry)) ⌝ }
+    ensures answers_after { λ r. ⌜ now (answers .exit) ≡ answersAfter (bitsOf (dispersedValues (dispersionAnswer (cellOf lx ly lz hx hy hz) (now (solutes .entry)) (now (starts .entry)) (now (picks .entry))))) (now (answers .entry)) ⌝ }
 {
-    give::dispersed(
-        dispersion::dispersion(give::cell(lx, ly, lz, hx, hy, hz), solutes, starts, picks),
+    answers::dispersed(
+        dispersion::dispersion(
+            answers::cell(lx, ly, lz, hx, hy, hz),
+            solutes,
+            starts,
+            picks,
+        ),
         answers,
     )
 }
@@ -157,11 +157,11 @@ pub extern "C" fn baithrum_tree(
     ensures water { λ r. ⌜ now («water_order» .exit) ≡ waterOrderAfter r (frameTree (cellOf lx ly lz hx hy hz) (now (solutes .entry)) (now (waters .entry)) (now (starts .entry)) (now (picks .entry))) (finiteWaters (now (waters .entry))) (now («water_order» .entry)) ⌝ }
     ensures table { λ r. ⌜ now (records .exit) ≡ recordsAfter r (frameTree (cellOf lx ly lz hx hy hz) (now (solutes .entry)) (now (waters .entry)) (now (starts .entry)) (now (picks .entry))) (now (records .entry)) ⌝ }
     ensures corners { λ r. ⌜ now (boxes .exit) ≡ boxesAfter r (frameTree (cellOf lx ly lz hx hy hz) (now (solutes .entry)) (now (waters .entry)) (now (starts .entry)) (now (picks .entry))) (now (boxes .entry)) ⌝ }
-    ensures answers_after { λ r. ⌜ now (answers .exit) ≡ answersAfter (treeCallValues r (frameTree (cellOf lx ly lz hx hy hz) (now (solutes .entry)) (now (waters .entry)) (now (starts .entry)) (now (picks .entry)))) (now (answers .entry)) ⌝ }
+    ensures answers_after { λ r. ⌜ now (answers .exit) ≡ answersAfter (treeAnswered (treeAnswer r (frameTree (cellOf lx ly lz hx hy hz) (now (solutes .entry)) (now (waters .entry)) (now (starts .entry)) (now (picks .entry))))) (now (answers .entry)) ⌝ }
 {
-    give::tree(
+    answers::tree(
         tree::tree(
-            give::cell(lx, ly, lz, hx, hy, hz),
+            answers::cell(lx, ly, lz, hx, hy, hz),
             solutes,
             waters,
             starts,
@@ -201,11 +201,11 @@ pub extern "C" fn baithrum_report(
     ensures table { λ r. ⌜ now (records .exit) ≡ recordsAfter r (frameTree (cellOf lx ly lz hx hy hz) (now (solutes .entry)) (now (waters .entry)) (now (starts .entry)) (now (picks .entry))) (now (records .entry)) ⌝ }
     ensures corners { λ r. ⌜ now (boxes .exit) ≡ boxesAfter r (frameTree (cellOf lx ly lz hx hy hz) (now (solutes .entry)) (now (waters .entry)) (now (starts .entry)) (now (picks .entry))) (now (boxes .entry)) ⌝ }
     ensures reported { λ r. ⌜ now (leaves .exit) ≡ leavesAfter r (cellOf lx ly lz hx hy hz) (now (waters .entry)) (now (starts .entry)) ((frameTree (cellOf lx ly lz hx hy hz) (now (solutes .entry)) (now (waters .entry)) (now (starts .entry)) (now (picks .entry))) .nodes) (now (leaves .entry)) ⌝ }
-    ensures answers_after { λ r. ⌜ now (answers .exit) ≡ answersAfter (unlessRefused r (reportValues ((frameTree (cellOf lx ly lz hx hy hz) (now (solutes .entry)) (now (waters .entry)) (now (starts .entry)) (now (picks .entry))) .nodes)) []) (now (answers .entry)) ⌝ }
+    ensures answers_after { λ r. ⌜ now (answers .exit) ≡ answersAfter (reportAnswered (reportAnswer r ((frameTree (cellOf lx ly lz hx hy hz) (now (solutes .entry)) (now (waters .entry)) (now (starts .entry)) (now (picks .entry))) .nodes))) (now (answers .entry)) ⌝ }
 {
-    give::report(
+    answers::report(
         report::report(
-            give::cell(lx, ly, lz, hx, hy, hz),
+            answers::cell(lx, ly, lz, hx, hy, hz),
             solutes,
             waters,
             starts,
@@ -244,13 +244,13 @@ pub extern "C" fn baithrum_frame(
     leaves: &mut [u32],
     answers: &mut [u32],
 ) -> u32
-    ensures number { λ r. ⌜ r ≡ frameOutcome (given (cellOf lx ly lz hx hy hz) (now (solutes .entry)) per (now (indices .entry)) (now (waters .entry))) (lent (now (starts .entry)) (now (picks .entry)) (now (clusters .entry)) (now («center_order» .entry)) (now («water_order» .entry)) (now (records .entry)) (now (boxes .entry)) (now (leaves .entry))) .number ⌝ }
+    ensures number { λ r. ⌜ r ≡ frameRefusal (given (cellOf lx ly lz hx hy hz) (now (solutes .entry)) per (now (indices .entry)) (now (waters .entry))) (lent (now (starts .entry)) (now (picks .entry)) (now (clusters .entry)) (now («center_order» .entry)) (now («water_order» .entry)) (now (records .entry)) (now (boxes .entry)) (now (leaves .entry))) ⌝ }
     ensures tables { λ r. ⌜ lent (now (starts .exit)) (now (picks .exit)) (now (clusters .exit)) (now («center_order» .exit)) (now («water_order» .exit)) (now (records .exit)) (now (boxes .exit)) (now (leaves .exit)) ≡ tablesAfter (given (cellOf lx ly lz hx hy hz) (now (solutes .entry)) per (now (indices .entry)) (now (waters .entry))) (lent (now (starts .entry)) (now (picks .entry)) (now (clusters .entry)) (now («center_order» .entry)) (now («water_order» .entry)) (now (records .entry)) (now (boxes .entry)) (now (leaves .entry))) ⌝ }
-    ensures answers_after { λ r. ⌜ now (answers .exit) ≡ answersAfter (frameWords (frameOutcome (given (cellOf lx ly lz hx hy hz) (now (solutes .entry)) per (now (indices .entry)) (now (waters .entry))) (lent (now (starts .entry)) (now (picks .entry)) (now (clusters .entry)) (now («center_order» .entry)) (now («water_order» .entry)) (now (records .entry)) (now (boxes .entry)) (now (leaves .entry))))) (now (answers .entry)) ⌝ }
+    ensures answers_after { λ r. ⌜ now (answers .exit) ≡ answersAfter (frameWords (frameAnswer (given (cellOf lx ly lz hx hy hz) (now (solutes .entry)) per (now (indices .entry)) (now (waters .entry))) (lent (now (starts .entry)) (now (picks .entry)) (now (clusters .entry)) (now («center_order» .entry)) (now («water_order» .entry)) (now (records .entry)) (now (boxes .entry)) (now (leaves .entry))))) (now (answers .entry)) ⌝ }
 {
-    give::frame(
+    answers::frame(
         mixing::frame(
-            give::cell(lx, ly, lz, hx, hy, hz),
+            answers::cell(lx, ly, lz, hx, hy, hz),
             solutes,
             per,
             indices,

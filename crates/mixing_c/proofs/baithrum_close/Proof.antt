@@ -1,10 +1,10 @@
 -- `baithrum_close` meets its contract: the number and the fractions are Close's. Assumes nothing.
 use borrow.Author.Needs.{needs}
 use mathlib.Core.Path.{ap, _∙_}
-use mathlib.Core.List.{List}
-use Prim.Native.Nat.{ℕ}
-use lib.Ieee.{Float}
-use Rattle.mixing_c.specs.Interface.{bitsOf, answersAfter}
+use Rattle.clusters.specs.declared.Closing.{Closing}
+use Rattle.clusters.specs.Answers.{closeNumber, fractionsOf}
+use Rattle.answers.specs.Interface.{bitsOf, answersAfter}
+use Rattle.mixing_c.proofs.Numbers.{close-number}
 use Rattle.mixing_c.proofs.baithrum_close.Statement.{statement}
 use Rattle.mixing_c.proofs.baithrum_close.Tie as tie
 
@@ -13,7 +13,7 @@ returns c =
     let st = c .before .before .before .before .before .before .before in
     let got = c .before .before .before .before .close .ensures in
     let given = c .before .before .closing .ensures in
-    (given .0 ∙ got .0, given .1 ∙ ap (λ (l : List Float). answersAfter (bitsOf l) (st .args .answers .now)) (got .1))
+    (given .0 ∙ ap closeNumber got ∙ close-number _, given .1 ∙ ap (λ (a : Closing). answersAfter (bitsOf (fractionsOf a)) (st .args .answers .now)) got)
 
 pub baithrum-close-spec : {M : Type 1} → statement M
 baithrum-close-spec =

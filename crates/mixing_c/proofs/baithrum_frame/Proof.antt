@@ -2,11 +2,11 @@
 -- the counts fit a word. Assumes nothing.
 use borrow.Author.Needs.{needs}
 use mathlib.Core.Path.{ap, _∙_}
-use mathlib.Core.List.{List}
-use Prim.Native.Nat.{ℕ}
-use Rattle.mixing.specs.Frame.{Outcome, given, lent}
-use Rattle.mixing_c.specs.Interface.{answersAfter, frameWords}
+use Rattle.mixing.specs.declared.FrameAnswer.{FrameAnswer}
+use Rattle.mixing.specs.Frame.{given, lent, frameNumber}
+use Rattle.answers.specs.Interface.{answersAfter, frameWords}
 use Rattle.mixing_c.proofs.Small.{frame-small}
+use Rattle.mixing_c.proofs.Numbers.{frame-number}
 use Rattle.mixing_c.proofs.baithrum_frame.Statement.{statement}
 use Rattle.mixing_c.proofs.baithrum_frame.Tie as tie
 
@@ -21,8 +21,8 @@ returns c =
     let st = c .before .before .before .before .before .before .before .before .before .before .before .before .before .before .before .before .before .before .before .before .before .before .before .before .before .before .before .before .before .before .before .before .before .before .before .before .before .before .before .before .before .before in
     let got = rw (c .before .before .before .before .before .before .before .before .before .before .before .before .before .before .before .before .before .before .before .before .before .before .before .before .before .before .before .before .before .cell .ensures) at (c .before .before .before .before .before .before .before .before .before .before .before .before .before .before .before .before .before .before .before .before .frame .ensures) in
     let given = c .before .before .frame2 .ensures in (
-      given .0 ∙ ap (λ (o : Outcome). o .number) (got .0),
-      (got .1, given .1 ∙ ap (λ (o : Outcome). answersAfter (frameWords o) (st .args .answers .now)) (got .0)),
+      given .0 ∙ ap frameNumber (got .0) ∙ frame-number _ _,
+      (got .1, given .1 ∙ ap (λ (a : FrameAnswer). answersAfter (frameWords a) (st .args .answers .now)) (got .0)),
     )
 
 pub baithrum-frame-spec : {M : Type 1} → statement M

@@ -1,0 +1,38 @@
+-- `selected` meets its contract: a refusal has no values, and an answer's counts stand in the table as words. Assumes nothing.
+use borrow.Author.Needs.{needs}
+use mathlib.Core.Path.{refl, ap, _∙_}
+use mathlib.Core.List.{List}
+use Prim.Native.Nat.{ℕ}
+use Rattle.answers.specs.Interface.{answersAfter}
+use Rattle.answers.proofs.Writing.{none-written, next-word}
+use Rattle.answers.proofs.selected.Statement.{statement}
+use Rattle.answers.proofs.selected.Tie as tie
+
+word-requires : tie.Need-word-requires
+word-requires c κs = rw (c .before .a2 .given .1) at (c .before .before .before .before .pre 0)
+
+word-requires-2 : tie.Need-word-requires-2
+word-requires-2 c κs = rw (c .before .before .a2 .given .1) at (c .before .before .before .before .before .pre 1)
+
+returns : tie.Need-returns
+returns c = rw (c .before .a .given .1) (refl, none-written _)
+
+returns-2 : tie.Need-returns-2
+returns-2 c =
+    let st = c .before .before .before .before .before .before .before .before .before .before .before in
+    let last = c .before .before .before .before .before in
+    rw (c .before .before .before .before .before .before .before .before .a2 .given .1) (refl, c .before .before .words .ensures ∙ ap (λ (l : List ℕ). answersAfter l (st .args .answers .now)) (next-word (last .before .word .ensures) (next-word (last .word2 .ensures) refl)))
+
+pub selected-spec : {M : Type 1} → statement M
+selected-spec =
+    tie.close
+    (tie.spec
+    (λ c. search needs)
+    (λ c. search needs)
+    word-requires
+    word-requires-2
+    (λ c. search needs)
+    (λ c κs. search needs)
+    returns
+    (λ c. search needs)
+    returns-2)
