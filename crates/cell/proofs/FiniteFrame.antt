@@ -2,7 +2,7 @@
 -- minimum image and every squared distance of finite atoms is finite. The bounds are 2 ^ 16 at most, the sides above 2 ^ -23 and 2 ^ 17 at most, and a finite atom's
 -- coordinates 2 ^ 20 at most; the laws of `Finite` do the rest. A bound that is not finite needs no test of its own: its extent is then not finite. Assumes nothing.
 use mathlib.Core.Path.{_≡_, refl, sym, subst}
-use mathlib.Core.Bool.{Bool, true, false, _&&_, _||_, true≢false}
+use mathlib.Core.Bool.{true, false, _&&_, true≢false}
 use mathlib.Core.List.{List, [], _∷_}
 use Prim.Native.Nat.{ℕ, zero, suc, _+_, _*_, _^_, _≤_, _<_}
 use native.Mathlib.Nat.{one-mul, mul-one}
@@ -13,16 +13,16 @@ use lib.ListN.{getD}
 use lib.Ieee.{Float, nan, inf, fin, binary32, up, down, sub, add, neg, lt, ofBits}
 use lib.Ieee.Bits.{is-true}
 use lib.Ieee.Scale.{finite}
-use borrow.Author.Tests.{ltb-true, ltb-false, not-false}
+use borrow.Author.Tests.{ltb-true, ltb-false}
 use Rattle.numbers.proofs.Bounds.{Within}
 use Rattle.numbers.proofs.Tests.{holds, both}
 use Rattle.cell.specs.declared.Cell.{Cell}
 use Rattle.cell.specs.Cell.{epsilon, validAxis, extentOf, valid, wrap, minImage, minus, distance2, pointAt, finitePoint}
-use Rattle.cell.specs.Limits.{maxBound, maxCoordinate, over, anyOver, boundOver, lengths, counts, bounds, coordinates, validity, frameRefusals}
-use Rattle.cell.specs.Refusals.{Refusal, firstRefusal}
+use Rattle.cell.specs.Limits.{maxBound, maxCoordinate, over, anyOver, boundOver, frameRefusals}
+use Rattle.cell.specs.Refusals.{firstRefusal}
 use Rattle.cell.proofs.Finite.{sub-pow, Above, Side, Sides, Around, around-finite, wrap-around, image-around, minus-around, distance-finite}
 use Rattle.cell.proofs.FirstRefusal.{neither}
-use Rattle.cell.proofs.FrameRefusals.{Accepted, frame-none}
+use Rattle.cell.proofs.FrameRefusals.{frame-none}
 
 -- ---- one number
 at-most : (a b c : ℕ) → ltb (1 * b * c) (a * 1) ≡ false → a ≤ b * c

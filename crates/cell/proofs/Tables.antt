@@ -93,12 +93,8 @@ at-refusal (suc r) x y n = refl
 pub at-none : {A : Type 0} (r : ℕ) (x y : A) → r ≡ 0 → unlessRefused r x y ≡ x
 at-none r x y e = rw e
 
--- an answer is a success x, or the refusal of its own number: its number is r, and what else is read off it is x's unless refused
+-- the number of an answer that is a success x, or the refusal of its own number
 pub number-answered : {A : Type 0} (number : A → ℕ) (refused : ℕ → A) (x : A) → number x ≡ 0 → ((r : ℕ) → number (refused r) ≡ r)
     → (r : ℕ) → number (unlessRefused r x (refused r)) ≡ r
 number-answered number refused x e own zero = e
 number-answered number refused x e own (suc r) = own (suc r)
-
-pub unless-ap : {A B : Type 0} (g : A → B) (r : ℕ) (x y : A) → g (unlessRefused r x y) ≡ unlessRefused r (g x) (g y)
-unless-ap g zero x y = refl
-unless-ap g (suc r) x y = refl

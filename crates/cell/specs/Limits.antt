@@ -7,7 +7,6 @@ use lib.Dec.{ltb, eqb}
 use lib.ListN.{length}
 use lib.Ieee.{Float, binary32, lt, neg, ofBits}
 use lib.Ieee.Scale.{finite}
-use Rattle.cell.specs.declared.Vec3.{Vec3}
 use Rattle.cell.specs.declared.Cell.{Cell}
 use Rattle.cell.specs.Cell.{valid}
 use Rattle.cell.specs.Refusals.{Refusal, refuse}

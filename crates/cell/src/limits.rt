@@ -2,7 +2,6 @@
 // waters or no indices hands over an empty list in their place.
 use crate::Cell;
 ghost use mathlib.Core.Path.{_≡_};
-ghost use lib.ListN.{length};
 ghost use Rattle.cell.specs.Limits.{over as overOf, beyond as beyondOf, any, anyOver, ragged as raggedOf, long as longOf, boundOver, limitRefusals, frameRefusals, maxCoordinate};
 ghost use Rattle.cell.specs.Refusals.{firstRefusal};
 

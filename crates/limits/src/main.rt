@@ -5,8 +5,7 @@ use cell::Cell;
 use cell::Vec3;
 use libc::STDOUT_FILENO;
 use selection::Selected;
-ghost use Prim.Native.Nat.{_≤_, _<_};
-ghost use lib.ListN.{length};
+ghost use Prim.Native.Nat.{_<_};
 
 // Select: coordinates, atoms per copy, indices, starts lent, picks lent, expected.
 const SELECTS: [usize; 96] = [

@@ -1,7 +1,7 @@
 -- A value is between -h and h where the larger of it and its opposite is at most h: one test for two. For all floats. Assumes nothing.
-use mathlib.Core.Path.{_≡_, refl, sym, subst}
+use mathlib.Core.Path.{_≡_, refl, subst}
 use mathlib.Core.Bool.{Bool, true, false, not, cond, _&&_, _||_}
-use Prim.Native.Nat.{ℕ, _+_, _*_, zero-le}
+use Prim.Native.Nat.{_+_, _*_, zero-le}
 use native.Mathlib.Omega.{arith}
 use lib.Dec.{T, nltb→le}
 use lib.Ieee.{Float, nan, inf, fin, up, down, neg, lt, eq, le}

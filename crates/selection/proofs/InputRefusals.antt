@@ -1,7 +1,7 @@
 -- The refusals that every call on pick lists makes first: what each arm of `input_refusal` returns, and what input with none of them has.
 -- Assumes nothing.
 use mathlib.Core.Path.{_≡_, refl, sym, ap, _∙_}
-use mathlib.Core.Bool.{Bool, true, false, not}
+use mathlib.Core.Bool.{true, false, not}
 use mathlib.Core.List.{List, [], _∷_}
 use Prim.Native.Nat.{ℕ, zero, suc}
 use native.Mathlib.Omega.{arith}
@@ -10,7 +10,7 @@ use lib.Ieee.{Float}
 use Rattle.cell.specs.declared.Cell.{Cell}
 use Rattle.cell.specs.Limits.{lengths, counts, bounds, coordinates, validity, limitRefusals, frameRefusals}
 use Rattle.cell.specs.Refusals.{firstRefusal}
-use Rattle.cell.proofs.FirstRefusal.{numbered, first-hit, first-skip, first-none, first-append, append-hit, append-skip}
+use Rattle.cell.proofs.FirstRefusal.{numbered, first-hit, first-skip, first-none, append-hit, append-skip}
 use Rattle.cell.proofs.FrameRefusals.{frame-numbered}
 use Rattle.selection.specs.Sound.{soundLists, soundness}
 use Rattle.selection.specs.Input.{inputRefusals}

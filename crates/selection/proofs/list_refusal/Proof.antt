@@ -1,5 +1,4 @@
 -- `selection::list_refusal` meets its contract: its tests are the refusals', in their order (`list-chain`). Assumes nothing.
-use mathlib.Core.Path.{sym, _∙_}
 use borrow.Author.Needs.{needs}
 use Rattle.selection.proofs.SelectRefusals.{list-chain}
 use Rattle.selection.proofs.list_refusal.Statement.{statement}
