@@ -9,3 +9,5 @@ pub mod Filling
 pub mod Between
 -- the whole box table
 pub mod Table
+-- the first number that fails a test
+pub mod Past

@@ -69,6 +69,15 @@ apartOf g b c =
     || (farOf (g .y) (sub binary32 (c .low .y) (b .high .y)) (sub binary32 (c .high .y) (b .low .y))
     || farOf (g .z) (sub binary32 (c .low .z) (b .high .z)) (sub binary32 (c .high .z) (b .low .z)))
 
+-- a gate keeps copy j apart from the box b
+abbrev pub apartFrom : Gates → List Float → List ℕ → List ℕ → Span → ℕ → Bool
+apartFrom g xs starts picks b j = apartOf g b (spanOf xs (pickList starts picks j))
+
+-- the first number from j on that fails a test, or the one after the k numbers from j on
+unfoldable pub firstPast : (ℕ → Bool) → ℕ → ℕ → ℕ
+firstPast f zero j = j
+firstPast f (suc k) j = cond (f j) (firstPast f k (suc j)) j
+
 -- ---- flags, for copy i of a table of n copies
 -- 1 where a gate keeps copies i and j apart, or 0
 abbrev pub apartFlag : Gates → List Float → ℕ → ℕ → ℕ → ℕ

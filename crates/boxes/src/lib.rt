@@ -3,14 +3,14 @@
 // The box table has six numbers a copy: the least x of each copy, then the greatest, and the same for y and z. Lengths are in angstrom.
 ghost use mathlib.Core.Path.{_≡_};
 ghost use mathlib.Core.Bool.{true, cond};
-ghost use Prim.Native.Nat.{ℕ, _+_, _*_, _<_, _≤_};
+ghost use Prim.Native.Nat.{ℕ, _+_, _-_, _*_, _<_, _≤_};
 ghost use lib.Ieee.{nan};
 ghost use lib.ListN.{length, getD};
 ghost use Rattle.cell.specs.Cell.{extentOf, pointAt, finitePoint};
 ghost use Rattle.selection.specs.Sound.{soundLists, copiesIn, pickList};
 ghost use Rattle.touch.specs.Touch.{near as nearOf, anyPair, copiesTouch};
 ghost use Rattle.gates.specs.Gates.{gatesOf, tested};
-ghost use Rattle.boxes.specs.Boxes.{coordinate as coordinateOf, leastOf, greatestOf, spanAt, spanOf, Boxes, pointSpan, apartOf, apartFlag, flagsAfter};
+ghost use Rattle.boxes.specs.Boxes.{coordinate as coordinateOf, leastOf, greatestOf, spanAt, spanOf, Boxes, pointSpan, apartOf, apartFrom, firstPast, apartFlag, flagsAfter};
 use cell::Cell;
 use cell::Vec3;
 use gates::Gates;
@@ -281,12 +281,30 @@ fn spans_apart(g: Gates, xs: &[f32], b: &[u32], s: Span) -> bool
 }
 
 // Whether a gate keeps the box s and the box of copy j of sound pick lists apart.
-pub fn row_apart(g: Gates, xs: &[f32], starts: &[u32], picks: &[u32], s: Span, j: usize) -> bool
+fn row_apart(g: Gates, xs: &[f32], starts: &[u32], picks: &[u32], s: Span, j: usize) -> bool
     requires { ⌜ soundLists (now xs) (now starts) (now picks) ≡ true ⌝ }
     requires { ⌜ j < copiesIn (now starts) ⌝ }
-    ensures { λ r. ⌜ r ≡ apartOf g s (spanOf (now (xs .entry)) (pickList (now (starts .entry)) (now (picks .entry)) j)) ⌝ }
+    ensures { λ r. ⌜ r ≡ apartFrom g (now (xs .entry)) (now (starts .entry)) (now (picks .entry)) s j ⌝ }
 {
     spans_apart(g, xs, selection::sound::copy_picks(starts, picks, j), s)
+}
+
+// The first copy from j on that no gate keeps apart from the box s, or the number of copies. A loop of its own, so that what follows such a copy
+// takes none of its registers.
+pub fn next_close(g: Gates, xs: &[f32], starts: &[u32], picks: &[u32], s: Span, j: usize) -> usize
+    requires { ⌜ soundLists (now xs) (now starts) (now picks) ≡ true ⌝ }
+    requires { ⌜ j ≤ copiesIn (now starts) ⌝ }
+    ensures { λ r. ⌜ r ≡ firstPast (apartFrom g (now (xs .entry)) (now (starts .entry)) (now (picks .entry)) s) (copiesIn (now (starts .entry)) - j) j ⌝ }
+{
+    let n = starts.len() - 1;
+    let mut k = j;
+    while k < n {
+        if !row_apart(g, xs, starts, picks, s, k) {
+            return k;
+        }
+        k += 1;
+    }
+    n
 }
 
 // Whether copies i and j of sound pick lists touch, given the cell's gates.

@@ -2,10 +2,11 @@
 use mathlib.Core.Path.{_≡_, refl, sym, ap, _∙_}
 use mathlib.Core.Bool.{Bool, true, false, cond}
 use mathlib.Core.List.{List}
-use Prim.Native.Nat.{ℕ, suc, _+_, _-_, _^_, _≤_, _<_}
+use Prim.Native.Nat.{ℕ, zero, suc, _+_, _-_, _^_, _≤_, _<_}
 use native.Mathlib.Omega.{arith}
 use native.Mathlib.Numerals.{add-one}
 use lib.ListN.{length, set}
+use Rattle.boxes.specs.Boxes.{firstPast}
 use Rattle.union_find.specs.Parents.{soundParents}
 use Rattle.cluster_table.specs.Table.{parents, degree, contacts, words, contact}
 use Rattle.clusters.specs.Answers.{pass, rowTable}
@@ -60,6 +61,17 @@ module _ {touch : ℕ → ℕ → Bool} {n i : ℕ} {t₀ : List ℕ} where
         few = omega (arith, r .few);
         rest = sym (pass-step touch n i j t l ∙ ap (λ (b : Bool). pass touch n i (n - (j + 1)) (j + 1) (cond b (contact n t i j) t)) e) ∙ r .rest;
       }
+
+  -- copies that a test passes over, where none of those touches
+  pub run-over : (f : ℕ → Bool) → ((m : ℕ) → m < n → f m ≡ true → touch i m ≡ false) → {t : List ℕ} (k j : ℕ) → j + k ≡ n → Run touch n i t₀ t j
+      → Run touch n i t₀ t (firstPast f k j)
+  unfolding firstPast
+  run-over f h {t} zero j e r = r
+  run-over f h {t} (suc k) j e r = by (f j) refl (λ d. run-over f h k (suc j) (omega arith) (rw add-one at (run-skip r (omega arith) (h j (omega arith) d))))
+    where
+      by : (b : Bool) → f j ≡ b → (f j ≡ true → Run touch n i t₀ t (firstPast f k (suc j))) → Run touch n i t₀ t (cond b (firstPast f k (suc j)) j)
+      by true d next = next d
+      by false d next = r
 
   pub run-touch : {t : List ℕ} {j : ℕ} → Run touch n i t₀ t j → j < n → touch i j ≡ true → Run touch n i t₀ (contact n t i j) (j + 1)
   run-touch {t} {j} r l e =

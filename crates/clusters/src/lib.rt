@@ -68,14 +68,12 @@ pub fn scan_row(
     let n = starts.len() - 1;
     let g = gates::gates_of(cell);
     let s = boxes::span_of(solutes, selection::sound::copy_picks(starts, picks, i));
-    let mut j = i + 1;
+    let mut j = boxes::next_close(g, solutes, starts, picks, s, i + 1);
     while j < n {
-        if !boxes::row_apart(g, solutes, starts, picks, s, j) {
-            if boxes::row_touch(cell, g, solutes, starts, picks, i, j) {
-                cluster_table::add_contact(table, n, i, j);
-            }
+        if boxes::row_touch(cell, g, solutes, starts, picks, i, j) {
+            cluster_table::add_contact(table, n, i, j);
         }
-        j += 1;
+        j = boxes::next_close(g, solutes, starts, picks, s, j + 1);
     }
     cluster_table::set_mark(table, n, i);
 }

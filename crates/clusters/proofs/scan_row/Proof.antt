@@ -1,18 +1,21 @@
 -- `clusters::scan_row` meets its contract. Invariant, before copy j is tested: what is left of the pass over the table gives what the
--- whole pass gives over the table at entry, and the table is ready for one more contact (`Run`); measure n - j. Assumes nothing.
-use mathlib.Core.Path.{refl, sym, ap, _∙_}
+-- whole pass gives over the table at entry, and the table is ready for one more contact (`Run`); measure n - j. Copies that a gate keeps apart from
+-- copy i do not touch it, so that the pass goes on at the first of the others (`run-over`). Assumes nothing.
+use mathlib.Core.Path.{_≡_, refl, sym, ap, _∙_}
+use mathlib.Core.Bool.{true, false}
 use mathlib.Core.Logic.{⊎-elim}
-use Prim.Native.Nat.{_-_}
+use Prim.Native.Nat.{ℕ, _+_, _-_, _≤_, _<_}
 use native.Mathlib.Omega.{arith}
+use Rattle.selection.specs.Sound.{copiesIn}
 use Rattle.selection.proofs.CopyPicks.{copy-part, copy-some, copy-atoms}
 use Rattle.touch.specs.Touch.{copiesTouch}
-use Rattle.boxes.specs.Boxes.{spanOf}
+use Rattle.boxes.specs.Boxes.{spanOf, apartFrom}
 use Rattle.boxes.proofs.Between.{apart-copies}
+use Rattle.boxes.proofs.Past.{past-least}
 use Rattle.cluster_table.proofs.Checks.{ready-of}
 use Rattle.clusters.proofs.Accepted.{accepted-sound, accepted-lists, accepted-tested}
-use Rattle.clusters.proofs.Passes.{Run, run-first, run-skip, run-touch, run-last, run-asks}
+use Rattle.clusters.proofs.Passes.{Run, run-first, run-skip, run-touch, run-over, run-last, run-asks}
 use borrow.Author.Needs.{needs}
-use borrow.Author.Tests.{not-false}
 use Rattle.clusters.proofs.scan_row.Statement.{statement}
 use Rattle.clusters.proofs.scan_row.Tie as tie
 
@@ -37,56 +40,65 @@ span-of-requires c κs =
     let ls = accepted-lists _ _ _ _ (st .pre .0) in
     (rw (c .copy-picks .ensures) (copy-some _ _ _ ls _ (st .pre .1 .2)), rw (c .copy-picks .ensures) (copy-atoms _ _ _ ls _ (st .pre .1 .2)))
 
-add-j : tie.Need-add-j Inv-loop μ-loop
-add-j c = let st = c .before .before .before .before .before .before .before in omega (arith, accepted-lists _ _ _ _ (st .pre .0) .few, st .pre .1 .2)
+-- a copy that a gate keeps apart from the box of copy i does not touch copy i
+keeps :
+    (c : tie.After-span-of Inv-loop μ-loop) → let st = c .before .before .before .before .before .before .before in
+    (m : ℕ) → m < copiesIn (st .args .starts .now)
+    → apartFrom (c .before .before .gates-of .result) (st .args .solutes .now) (st .args .starts .now) (st .args .picks .now) (c .span-of .result) m ≡ true
+    → copiesTouch (st .args .cell) (st .args .solutes .now) (st .args .starts .now) (st .args .picks .now) (st .args .i) m ≡ false
+keeps c m l e =
+    let st = c .before .before .before .before .before .before .before in
+    apart-copies _ _ _ _ _ _ _ _ _ (accepted-sound _ _ _ _ (st .pre .0)) (accepted-tested _ _ _ _ (st .pre .0)) (st .pre .1 .2) l
+    (c .before .before .gates-of .ensures) (c .span-of .ensures ∙ ap (spanOf _) (c .before .copy-picks .ensures)) refl e
+
+add-next-close : tie.Need-add-next-close Inv-loop μ-loop
+add-next-close c = let st = c .before .before .before .before .before .before .before in omega (arith, accepted-lists _ _ _ _ (st .pre .0) .few, st .pre .1 .2)
+
+next-close-requires : tie.Need-next-close-requires Inv-loop μ-loop
+next-close-requires c κs = let st = c .before .before .before .before .before .before .before in (accepted-sound _ _ _ _ (st .pre .0), omega (arith, st .pre .1 .2))
 
 loop-holds : tie.Need-loop-holds Inv-loop μ-loop
 loop-holds c =
-    let st = c .before .before .before .before .before .before .before in
+    let st = c .before .before .before .before .before .before .before .before in
     let ls = accepted-lists _ _ _ _ (st .pre .0) in
-    run-first (ls .few) (st .pre .1 .0) (st .pre .1 .2) (ready-of _ _ (ls .few) (st .pre .1 .1))
-
-row-apart-requires : tie.Need-row-apart-requires Inv-loop μ-loop
-row-apart-requires c κs =
-    let st = c .before .before .before .before .before .before .before .before .before in
-    (accepted-sound _ _ _ _ (st .pre .0), c .loop-test .taken)
+    rw (c .next-close .ensures)
+    (run-over _ (keeps (c .before)) _ _ (omega (arith, st .pre .1 .2)) (run-first (ls .few) (st .pre .1 .0) (st .pre .1 .2) (ready-of _ _ (ls .few) (st .pre .1 .1))))
 
 row-touch-requires : tie.Need-row-touch-requires Inv-loop μ-loop
 row-touch-requires c κs =
-    let st = c .before .before .before .before .before .before .before .before .before .before .before in
-    (accepted-sound _ _ _ _ (st .pre .0), ((c .before .before .before .before .before .before .gates-of .ensures, accepted-tested _ _ _ _ (st .pre .0)), (st .pre .1 .2, c .before .before .loop-test .taken)))
+    let st = c .before .before .before .before .before .before .before .before .before .before in
+    (accepted-sound _ _ _ _ (st .pre .0), ((c .before .before .before .before .before .gates-of .ensures, accepted-tested _ _ _ _ (st .pre .0)), (st .pre .1 .2, c .loop-test .taken)))
 
 add-contact-requires : tie.Need-add-contact-requires Inv-loop μ-loop
 add-contact-requires c κs =
-    let st = c .before .before .before .before .before .before .before .before .before .before .before .before .before .before in
-    run-asks (c .before .before .before .before .before .before .loop .inv) (accepted-lists _ _ _ _ (st .pre .0) .few) (c .before .before .before .before .before .loop-test .taken)
+    let st = c .before .before .before .before .before .before .before .before .before .before .before .before .before in
+    run-asks (c .before .before .before .before .loop .inv) (accepted-lists _ _ _ _ (st .pre .0) .few) (c .before .before .before .loop-test .taken)
 
-add-j-2 : tie.Need-add-j-2 Inv-loop μ-loop
-add-j-2 c = let st = c .before .before .before .before .before .before .before .before .before .before .before in omega (arith, accepted-lists _ _ _ _ (st .pre .0) .few)
+add-next-close-2 : tie.Need-add-next-close-2 Inv-loop μ-loop
+add-next-close-2 c = let st = c .before .before .before .before .before .before .before .before .before .before .before .before in omega (arith, accepted-lists _ _ _ _ (st .pre .0) .few)
+
+next-close-requires-2 : tie.Need-next-close-requires-2 Inv-loop μ-loop
+next-close-requires-2 c κs = (accepted-sound _ _ _ _ (c .before .before .before .before .before .before .before .before .before .before .before .before .pre .0), omega (arith, c .before .before .loop-test .taken))
 
 loop-less : tie.Need-loop-less Inv-loop μ-loop
-loop-less c = search needs
+loop-less c =
+    let on : c .before .before .before .before .loop .j + 1 ≤ c .next-close2 .result = rw (c .next-close2 .ensures) (past-least _ _ _) in
+    omega (arith, c .before .before .before .loop-test .taken)
 
 loop-again : tie.Need-loop-again Inv-loop μ-loop
 loop-again c =
-    let b = c .before .before .before in
-    let st = b .before .before .before .before .before .before .before .before in
-    ⊎-elim
-    (λ w. rw (w .7 ∙ w .4 .ensures) (run-touch (b .loop .inv) (c .before .before .loop-test .taken) (sym (w .1 .ensures) ∙ w .2 .taken)))
-    (λ w.
-    ⊎-elim
-    (λ v. rw (v .3) (run-skip (b .loop .inv) (c .before .before .loop-test .taken) (sym (v .1 .ensures) ∙ v .2 .left)))
-    (λ v.
-    rw (v .1)
-    (run-skip (b .loop .inv) (c .before .before .loop-test .taken)
-    (apart-copies _ _ _ _ _ _ _ _ _ (accepted-sound _ _ _ _ (st .pre .0)) (accepted-tested _ _ _ _ (st .pre .0)) (st .pre .1 .2) (c .before .before .loop-test .taken)
-    (b .before .before .before .gates-of .ensures) (b .before .span-of .ensures ∙ ap (spanOf _) (b .before .before .copy-picks .ensures)) refl
-    (sym (c .before .row-apart .ensures) ∙ not-false _ (v .0 .left)))))
-    w)
-    (c .if1 .came)
+    let a = c .before .before .before .before .loop in
+    let t = c .before .before .before .loop-test .taken in
+    let touch = c .before .before .row-touch .ensures in
+    rw (c .next-close2 .ensures)
+    (run-over _ (keeps (c .before .before .before .before .before .before)) _ _ (omega (arith, t))
+    (⊎-elim
+    (λ w. rw (w .5 ∙ w .2 .ensures) (run-touch (a .inv) t (sym touch ∙ w .0 .taken)))
+    (λ v. rw (v .1) (run-skip (a .inv) t (sym touch ∙ v .0 .left)))
+    (c .before .if1 .came)))
 
 set-mark-requires : tie.Need-set-mark-requires Inv-loop μ-loop
-set-mark-requires c κs = let st = c .before .before .before .before .before .before .before .before .before .before in (accepted-lists _ _ _ _ (st .pre .0) .few, c .before .before .loop .inv .long, st .pre .1 .2)
+set-mark-requires c κs = let st = c .before .before .before .before .before .before .before .before .before .before .before in (accepted-lists _ _ _ _ (st .pre .0) .few, c .before .before .loop .inv .long, st .pre .1 .2)
 
 same-length : tie.Need-same-length Inv-loop μ-loop
 same-length c = search (needs, c .before .before .before .before .before .loop .inv .same)
@@ -104,12 +116,13 @@ scan-row-spec =
     gates-of-requires
     copy-picks-requires
     span-of-requires
-    add-j
+    add-next-close
+    next-close-requires
     loop-holds
-    row-apart-requires
     row-touch-requires
     add-contact-requires
-    add-j-2
+    add-next-close-2
+    next-close-requires-2
     loop-less
     loop-again
     set-mark-requires
