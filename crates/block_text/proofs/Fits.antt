@@ -19,7 +19,8 @@ use Rattle.block.proofs.Reading.{length-values}
 use Rattle.block.proofs.Answers.{Owed, cramped, no-block, read, refused, taken}
 use Rattle.listing.specs.Listing.{refusedText}
 use Rattle.mixing.specs.Frame.{given}
-use Rattle.block_text.specs.Printed.{frameIn, programTables, frameText, printed}
+use Rattle.frame_text.specs.Texts.{programTables, frameText}
+use Rattle.block_text.specs.Printed.{frameIn, printed}
 
 -- what a block holds has at most so many bytes
 small : (b : List ℕ) → isBlock b ≡ true → 46 + 4 * indexCount b + 12 * (soluteAtoms b + waterCount b) ≤ maxBlock

@@ -16,7 +16,8 @@ use Rattle.mixing.specs.declared.FrameAnswer.{FrameAnswer}
 use Rattle.mixing.specs.declared.FrameAnswer.the-variants.{Refused, Blank, Mixed}
 use Rattle.mixing.specs.Frame.{Frame, Tables, frameAnswer, tablesAfter}
 use Rattle.mixing.proofs.Answered.{listed-leaves}
-use Rattle.block_text.specs.Printed.{frameIn, programTables, answerText, frameText, printed, textRoom}
+use Rattle.frame_text.specs.Texts.{programTables, answerText, frameText}
+use Rattle.block_text.specs.Printed.{frameIn, printed, textRoom}
 
 -- ---- the text fits
 frame-fits : (f : Frame) (t : Tables) → length (t .leaves) ≡ 16384 → length (frameText f t) ≤ textRoom

@@ -3,34 +3,14 @@
 use Prim.Native.Nat.{ℕ, _+_, _*_}
 use mathlib.Core.Bool.{cond}
 use mathlib.Core.List.{List}
-use lib.ListN.{replicate}
-use lib.Ieee.{binary32, ofBits}
 use Rattle.block.specs.Block.{isBlock, cellOf, perCopy, solutesOf, indicesOf, watersOf}
-use Rattle.listing.specs.Listing.{refusedText, blankText, listingText}
-use Rattle.mixing.specs.declared.FrameAnswer.{FrameAnswer}
-use Rattle.mixing.specs.declared.FrameAnswer.the-variants.{Refused, Blank, Mixed}
-use Rattle.mixing.specs.Frame.{Frame, Tables, given, lent, frameAnswer, tablesAfter}
+use Rattle.listing.specs.Listing.{refusedText}
+use Rattle.mixing.specs.Frame.{Frame, given}
+use Rattle.frame_text.specs.Texts.{programTables, frameText}
 
 -- the frame that a block holds
 unfoldable pub frameIn : List ℕ → Frame
 frameIn b = given (cellOf b) (solutesOf b) (perCopy b) (indicesOf b) (watersOf b)
-
--- what the program lends, all zeros: 16,384 picks, 2,048 records in each node table, and elsewhere all that a block of 60,000 bytes
--- can need: 4,996 atoms or waters, 4,096 copies
-unfoldable pub programTables : Tables
-programTables =
-    lent (replicate 4097 0) (replicate 16384 0) (replicate 12290 0) (replicate 4096 0) (replicate 4996 0)
-    (replicate 16384 0) (replicate 12288 (ofBits binary32 0)) (replicate 16384 0)
-
--- the text of each case of the whole frame's answer, with the leaf table that it left
-abbrev pub answerText : FrameAnswer → List ℕ → List ℕ
-answerText (Refused n) leaves = refusedText n
-answerText Blank leaves = blankText
-answerText (Mixed copies picks largest contacted pair dispersion nodes depth count dry) leaves =
-    listingText copies largest contacted pair dispersion nodes depth leaves count dry
-
-unfoldable pub frameText : Frame → Tables → List ℕ
-frameText f t = answerText (frameAnswer f t) (tablesAfter f t .leaves)
 
 -- what is printed for the bytes b
 unfoldable pub printed : List ℕ → List ℕ

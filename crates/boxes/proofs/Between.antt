@@ -10,16 +10,16 @@ use lib.Dec.{T, lit≤}
 use lib.ListN.{length, getD, drop}
 use lib.Ieee.{Float, nan, binary32, sub, le}
 use lib.Ieee.Scale.{finite}
-use Rattle.numbers.proofs.Bounds.{Within, exact-pow, sub-within}
-use Rattle.numbers.proofs.Quotients.{within-finite}
-use Rattle.numbers.proofs.Monotone.{sub-mono}
+use Rattle.floats.proofs.Bounds.{Within, exact-pow, sub-within}
+use Rattle.floats.proofs.Quotients.{within-finite}
+use Rattle.floats.proofs.Monotone.{sub-mono}
 use Rattle.cell.specs.declared.Cell.{Cell}
 use Rattle.cell.specs.declared.Vec3.{Vec3}
 use Rattle.cell.specs.Cell.{extentOf, minus, pointAt, finitePoint}
-use Rattle.selection.specs.Selection.{finiteAtom}
-use Rattle.selection.specs.Sound.{copiesIn, pickList, soundLists}
-use Rattle.selection.proofs.SoundLists.{sound-lists}
-use Rattle.selection.proofs.CopyPicks.{copy-some, copy-finite}
+use Rattle.pick_lists.specs.Sound.{finiteAtom}
+use Rattle.pick_lists.specs.Sound.{copiesIn, pickList, soundLists}
+use Rattle.pick_lists.proofs.SoundLists.{sound-lists}
+use Rattle.pick_lists.proofs.CopyPicks.{copy-some, copy-finite}
 use Rattle.touch.specs.Touch.{near, anyIn, anyPair, copiesTouch}
 use Rattle.touch.proofs.Any.{any-none}
 use Rattle.gates.specs.declared.Gate.{Gate}
@@ -190,8 +190,3 @@ module _ (g : Gates) (s : Span) (xs : List Float) (qs : List ℕ) (x : Bool) (is
 
     pub by-z : y ≡ false → (z : Bool) → z ≡ axisFar (g .z) (leastOf xs 2 qs) (greatestOf xs 2 qs) (s .low .z) (s .high .z) → z ≡ apartOf g s (spanOf xs qs)
     by-z out z is-z = sym (apart-is y z is-y is-z ∙ rw (off, out) refl)
-
--- a flag that is not 0
-pub flagged : (t : Bool) (m : ℕ) → m ≡ cond t 1 0 → (m ≡ 0 → ⊥) → t ≡ true
-flagged true m e h = refl
-flagged false m e h = absurd (h e)

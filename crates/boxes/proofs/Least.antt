@@ -11,9 +11,9 @@ use lib.ListN.{length, getD, drop, drop-of-length-le}
 use lib.Seq.{drop-cons}
 use lib.Ieee.{Float, le}
 use lib.Ieee.Scale.{finite}
-use Rattle.numbers.proofs.Bounds.{Within}
-use Rattle.numbers.proofs.Quotients.{within-finite}
-use Rattle.numbers.proofs.Signed.{le-trans-finite}
+use Rattle.floats.proofs.Bounds.{Within}
+use Rattle.floats.proofs.Quotients.{within-finite}
+use Rattle.floats.proofs.Signed.{le-trans-finite}
 use Rattle.gates.specs.Gates.{larger, smaller}
 use Rattle.gates.proofs.Order.{le-refl-finite, of-larger, of-smaller, larger-first, larger-second, smaller-first, smaller-second}
 use Rattle.boxes.specs.Boxes.{coordinate, leastFrom, greatestFrom, leastOf, greatestOf}

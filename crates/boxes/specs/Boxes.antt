@@ -1,14 +1,12 @@
--- Boxes around the picks of each copy, the box table, and when a gate keeps two boxes apart. Lengths are in angstrom.
+-- Boxes around the picks of a copy, and when a gate keeps two boxes apart. Lengths are in angstrom.
 -- Definitions only. Assumes nothing.
-use mathlib.Core.Path.{_≡_}
 use mathlib.Core.Bool.{Bool, _||_, cond}
 use mathlib.Core.List.{List, [], _∷_}
-use Prim.Native.Nat.{ℕ, zero, suc, _+_, _-_, _*_, _<_}
+use Prim.Native.Nat.{ℕ, zero, suc, _+_, _*_}
 use lib.ListN.{getD}
 use lib.Ieee.{Float, nan, binary32, sub}
 use Rattle.cell.specs.declared.Vec3.{Vec3}
-use Rattle.cell.specs.Tables.{placed}
-use Rattle.selection.specs.Sound.{copiesIn, pickList}
+use Rattle.pick_lists.specs.Sound.{pickList}
 use Rattle.gates.specs.declared.Gates.{Gates}
 use Rattle.gates.specs.Gates.{larger, smaller, farOf}
 use Rattle.boxes.specs.declared.Span.{Span}
@@ -36,14 +34,6 @@ unfolding greatestFrom
 greatestOf xs axis ps = greatestFrom xs axis (coordinate xs axis (getD ps 0 0)) ps
 
 -- ---- boxes
--- the box of copy i in a table of n copies
-unfoldable pub spanAt : List Float → ℕ → ℕ → Span
-spanAt t n i =
-    record {
-      low = record { x = getD t i nan; y = getD t (2 * n + i) nan; z = getD t (4 * n + i) nan };
-      high = record { x = getD t (n + i) nan; y = getD t (3 * n + i) nan; z = getD t (5 * n + i) nan };
-    }
-
 -- the least and the greatest coordinates of the picks
 unfoldable pub spanOf : List Float → List ℕ → Span
 unfolding leastOf greatestOf
@@ -52,10 +42,6 @@ spanOf xs ps =
       low = record { x = leastOf xs 0 ps; y = leastOf xs 1 ps; z = leastOf xs 2 ps };
       high = record { x = greatestOf xs 0 ps; y = greatestOf xs 1 ps; z = greatestOf xs 2 ps };
     }
-
--- the box table of pick lists: the least x of each copy, then the greatest, and the same for y and z
-abbrev pub Boxes : List Float → List ℕ → List ℕ → List Float → Type 0
-Boxes xs starts picks t = (i : ℕ) → i < copiesIn starts → spanAt t (copiesIn starts) i ≡ spanOf xs (pickList starts picks i)
 
 -- the box of one point
 abbrev pub pointSpan : Vec3 → Span
@@ -77,18 +63,3 @@ apartFrom g xs starts picks b j = apartOf g b (spanOf xs (pickList starts picks 
 unfoldable pub firstPast : (ℕ → Bool) → ℕ → ℕ → ℕ
 firstPast f zero j = j
 firstPast f (suc k) j = cond (f j) (firstPast f k (suc j)) j
-
--- ---- flags, for copy i of a table of n copies
--- 1 where a gate keeps copies i and j apart, or 0
-abbrev pub apartFlag : Gates → List Float → ℕ → ℕ → ℕ → ℕ
-apartFlag g t n i j = cond (apartOf g (spanAt t n i) (spanAt t n j)) 1 0
-
--- the flags of k copies, from copy j on
-unfoldable pub flagsFrom : Gates → List Float → ℕ → ℕ → ℕ → ℕ → List ℕ
-flagsFrom g t n i zero j = []
-flagsFrom g t n i (suc k) j = apartFlag g t n i j ∷ flagsFrom g t n i k (suc j)
-
--- a list of flags after `mark_apart`: each copy after i has its own, and all else keeps its value
-unfoldable pub flagsAfter : Gates → List Float → ℕ → ℕ → List ℕ → List ℕ
-unfolding flagsFrom placed
-flagsAfter g t n i flags = placed (i + 1) (flagsFrom g t n i (n - (i + 1)) (i + 1)) flags

@@ -1,2 +1,2 @@
--- Boxes around the picks of each copy.
+-- Boxes around the picks of a copy.
 pub mod Boxes

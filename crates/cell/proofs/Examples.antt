@@ -4,7 +4,7 @@ use mathlib.Core.Path.{_≡_, refl}
 use mathlib.Core.Bool.{true, false}
 use Prim.Native.Nat.{ℕ}
 use lib.Ieee.{binary32, ofBits, sub, mul, div, lt}
-use Rattle.numbers.specs.Whole.{floorOf, roundOf}
+use Rattle.floats.specs.Whole.{floorOf, roundOf}
 use Rattle.cell.specs.declared.Vec3.{Vec3}
 use Rattle.cell.specs.declared.Cell.{Cell}
 use Rattle.cell.specs.Cell.{extentOf, validAxis, valid, wrapAxis, wrap, imageAxis, minImage}

@@ -12,10 +12,10 @@ use lib.Ieee.{Float, nan, inf, fin, binary32, up, down, add, sub, mul, div}
 use lib.Ieee.Fits.{down-pos, and-i}
 use lib.Ieee.Bits.{is-true}
 use lib.Ieee.Scale.{finite}
-use Rattle.numbers.specs.Whole.{floorOf, roundOf}
-use Rattle.numbers.proofs.Bounds.{Within, Exact, exact-pow, mul-within, add-within, sub-within, within-more}
-use Rattle.numbers.proofs.Image.{Keeps, Nonzero, Ratio, round-keeps, floor-keeps, image-within}
-use Rattle.numbers.proofs.Quotients.{within-finite}
+use Rattle.floats.specs.Whole.{floorOf, roundOf}
+use Rattle.floats.proofs.Bounds.{Within, Exact, exact-pow, mul-within, add-within, sub-within, within-more}
+use Rattle.floats.proofs.Image.{Keeps, Nonzero, Ratio, round-keeps, floor-keeps, image-within}
+use Rattle.floats.proofs.Quotients.{within-finite}
 use Rattle.cell.specs.declared.Vec3.{Vec3}
 use Rattle.cell.specs.declared.Cell.{Cell}
 use Rattle.cell.specs.Cell.{wrapAxis, imageAxis, extentOf, wrap, minImage, squared, minus, distance2, volumeOf, finitePoint}

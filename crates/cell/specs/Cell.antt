@@ -6,7 +6,7 @@ use Prim.Native.Nat.{ℕ, _+_, _*_}
 use lib.ListN.{getD}
 use lib.Ieee.{Float, nan, binary32, add, sub, mul, div, lt, ofBits}
 use lib.Ieee.Scale.{finite}
-use Rattle.numbers.specs.Whole.{floorOf, roundOf, nearZero}
+use Rattle.floats.specs.Whole.{floorOf, roundOf, nearZero}
 use Rattle.cell.specs.declared.Vec3.{Vec3}
 use Rattle.cell.specs.declared.Cell.{Cell}
 

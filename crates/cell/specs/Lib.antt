@@ -1,5 +1,4 @@
--- The cell of a frame, the tests that a frame's lists and cell go through, and the order of refusals.
+-- The cell of a frame, the order of refusals, and tables after a call.
 pub mod Cell
 pub mod Tables
 pub mod Refusals
-pub mod Limits

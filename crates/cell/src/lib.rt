@@ -5,11 +5,8 @@ ghost use mathlib.Core.Bool.{true};
 ghost use Prim.Native.Nat.{_+_, _*_, _<_};
 ghost use lib.ListN.{length};
 ghost use lib.Ieee.{binary32, div};
-ghost use Rattle.numbers.specs.Whole.{nearZero};
+ghost use Rattle.floats.specs.Whole.{nearZero};
 ghost use Rattle.cell.specs.Cell.{wrapAxis, imageAxis, validAxis, extentOf, valid, wrap as wrapOf, minImage, inExtents, nearAll, squared, minus, distance2, volumeOf, pointAt, finitePoint};
-
-// limits.rt: the refusals that ask only for a call's lists and cell
-pub mod limits;
 
 // f32 EPSILON, 2^-23: an extent at or below it makes a cell not valid.
 pub const EPSILON: f32 = 1.1920929e-7;

@@ -66,7 +66,7 @@ fn words_sound(table: &[u32], n: usize) -> bool
     let a = 2 + n;
     let b = a + n;
     let c = b + n;
-    union_find::all_below(&table[a..b], n as u32) & union_find::all_below(&table[b..c], 2)
+    sound_parents::all_below(&table[a..b], n as u32) & sound_parents::all_below(&table[b..c], 2)
 }
 
 // Whether a table of n copies is sound: any table whatever is decided.
@@ -81,7 +81,7 @@ pub fn is_sound(table: &[u32], n: usize) -> bool
         return false;
     }
     let end = 2 + n;
-    if !union_find::is_sound(&table[2..end]) {
+    if !sound_parents::is_sound(&table[2..end]) {
         return false;
     }
     words_sound(table, n)

@@ -6,10 +6,10 @@ use Prim.Native.Nat.{ℕ}
 use lib.Ieee.{Float}
 use Rattle.cell.specs.declared.Cell.{Cell}
 use Rattle.cell.specs.Refusals.{firstRefusal}
-use Rattle.selection.specs.Sound.{soundLists}
-use Rattle.selection.specs.Input.{inputRefusals}
-use Rattle.selection.proofs.SoundLists.{Lists, sound-lists}
-use Rattle.selection.proofs.InputRefusals.{input-accepted}
+use Rattle.pick_lists.specs.Sound.{soundLists}
+use Rattle.pick_lists.specs.Input.{inputRefusals}
+use Rattle.pick_lists.proofs.SoundLists.{Lists, sound-lists}
+use Rattle.pick_lists.proofs.InputRefusals.{input-accepted}
 use Rattle.gates.specs.Gates.{tested}
 use Rattle.gates.proofs.Axes.{tested-frame}
 

@@ -5,16 +5,16 @@ use mathlib.Core.List.{List, [], _∷_}
 use Prim.Native.Nat.{ℕ}
 use lib.ListN.{replicate}
 use lib.Ieee.{Float, binary32, ofBits, ofInt, add, sub, mul, div, lt, le, neg}
-use Rattle.numbers.specs.Whole.{roundOf}
+use Rattle.floats.specs.Whole.{roundOf}
 use Rattle.cell.specs.Cell.{extentOf, validAxis, valid, minImage, imageAxis, squared, minus, distance2, pointAt, finitePoint}
-use Rattle.cell.specs.Limits.{over, anyOver, ragged, long, longIndices, boundOver, lengths, counts, bounds, coordinates, validity, limitRefusals, frameRefusals}
+use Rattle.frame_limits.specs.Limits.{over, anyOver, ragged, long, longIndices, boundOver, lengths, counts, bounds, coordinates, validity, limitRefusals, frameRefusals}
 use Rattle.cell.specs.declared.Answer.{Answer}
 use Rattle.cell.specs.declared.Answer.the-variants.{Accepted, Refused}
 use Rattle.cell.specs.Refusals.{firstRefusal}
 use Rattle.cell.proofs.Examples.{upTo}
-use Rattle.selection.specs.Selection.{finiteAtom}
-use Rattle.selection.specs.Sound.{rises, allFinite, pickList, soundStarts, soundLists, soundness}
-use Rattle.selection.specs.Input.{inputRefusals}
+use Rattle.pick_lists.specs.Sound.{finiteAtom}
+use Rattle.pick_lists.specs.Sound.{rises, allFinite, pickList, soundStarts, soundLists, soundness}
+use Rattle.pick_lists.specs.Input.{inputRefusals}
 use Rattle.touch.specs.Touch.{cutoff2, near, anyIn, anyPair, copiesTouch}
 use Rattle.union_find.specs.Range.{allBelow, count, greatest}
 use Rattle.union_find.specs.Parents.{walk, rootOf, shortened, compressed, joined, reachesRoot, soundParents, setSize, largestSet}

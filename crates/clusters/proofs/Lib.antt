@@ -19,8 +19,6 @@ pub mod Held
 pub mod Calls
 -- the order rule, and that Close's answer does not depend on the order
 pub mod OrderRule
--- every row in rising order: each is accepted
-pub mod Scans
 -- a run worked out: ten calls on four copies
 pub mod Examples
 -- Open's refusals; Row's refusals of a table

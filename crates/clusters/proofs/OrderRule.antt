@@ -14,8 +14,8 @@ use Rattle.cell.specs.Refusals.{Refusal, refuse, firstRefusal, answerOf, number
 use Rattle.cell.specs.Tables.{unlessRefused}
 use Rattle.cell.proofs.FirstRefusal.{first-append}
 use Rattle.cell.proofs.Tables.{at-none, number-answered}
-use Rattle.selection.specs.Input.{inputRefusals}
-use Rattle.selection.proofs.InputRefusals.{input-numbered}
+use Rattle.pick_lists.specs.Input.{inputRefusals}
+use Rattle.pick_lists.proofs.InputRefusals.{input-numbered}
 use Rattle.union_find.proofs.Ranges.{and-left, and-right}
 use Rattle.cluster_table.specs.Table.{words, opened}
 use Rattle.clusters.specs.Answers.{rowTable, tableRefusals, openRefusal, openLeaves, rowRefusal, rowLeaves, closeAnswer}

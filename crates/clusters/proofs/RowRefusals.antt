@@ -13,10 +13,10 @@ use Rattle.cell.specs.declared.Answer.the-variants.{Accepted, Refused}
 use Rattle.cell.specs.Refusals.{Refusal, firstRefusal, answerOf}
 use Rattle.cell.proofs.FirstRefusal.{append-hit, append-skip}
 use Rattle.cell.proofs.Tables.{at-refusal, at-none}
-use Rattle.selection.specs.Sound.{copiesIn, soundLists}
-use Rattle.selection.specs.Input.{inputRefusals}
-use Rattle.selection.proofs.SoundLists.{Lists, sound-lists}
-use Rattle.selection.proofs.InputRefusals.{input-numbered, input-accepted}
+use Rattle.pick_lists.specs.Sound.{copiesIn, soundLists}
+use Rattle.pick_lists.specs.Input.{inputRefusals}
+use Rattle.pick_lists.proofs.SoundLists.{Lists, sound-lists}
+use Rattle.pick_lists.proofs.InputRefusals.{input-numbered, input-accepted}
 use Rattle.touch.specs.Touch.{copiesTouch}
 use Rattle.cluster_table.specs.Table.{mark, words, soundTable}
 use Rattle.clusters.specs.Answers.{rowTable, tableRefusals, rowRefusal, rowLeaves}

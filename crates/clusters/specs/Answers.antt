@@ -8,10 +8,10 @@ use lib.Dec.{eqb, leb, ltb}
 use lib.Ieee.{Float}
 use Rattle.cell.specs.declared.Cell.{Cell}
 use Rattle.cell.specs.Refusals.{Refusal, refuse, firstRefusal}
-use Rattle.cell.specs.Limits.{maxCopies}
+use Rattle.frame_limits.specs.Limits.{maxCopies}
 use Rattle.cell.specs.Tables.{unlessRefused}
-use Rattle.selection.specs.Sound.{copiesIn}
-use Rattle.selection.specs.Input.{inputRefusals}
+use Rattle.pick_lists.specs.Sound.{copiesIn}
+use Rattle.pick_lists.specs.Input.{inputRefusals}
 use Rattle.touch.specs.Touch.{copiesTouch}
 use Rattle.union_find.specs.Range.{allBelow}
 use Rattle.cluster_table.specs.declared.ClusterFractions.{ClusterFractions}

@@ -1,5 +1,4 @@
--- Clusters of touching copies: what Open, Row and Close answer and leave, the contact graph, the order rule, and a scan of every row.
+-- Clusters of touching copies: what Open, Row and Close answer and leave, the contact graph and the order rule.
 pub mod Answers
 pub mod Graph
 pub mod Order
-pub mod Scan

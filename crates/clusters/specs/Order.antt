@@ -11,8 +11,8 @@ use Rattle.cell.specs.declared.Cell.{Cell}
 use Rattle.cell.specs.declared.Answer.{Answer}
 use Rattle.cell.specs.declared.Answer.the-variants.{Accepted, Refused}
 use Rattle.cell.specs.Refusals.{refuse, firstRefusal, answerOf}
-use Rattle.selection.specs.Sound.{copiesIn}
-use Rattle.selection.specs.Input.{inputRefusals}
+use Rattle.pick_lists.specs.Sound.{copiesIn}
+use Rattle.pick_lists.specs.Input.{inputRefusals}
 use Rattle.touch.specs.Touch.{copiesTouch}
 use Rattle.union_find.specs.Range.{count}
 use Rattle.union_find.specs.Parents.{rootOf}

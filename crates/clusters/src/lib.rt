@@ -3,22 +3,17 @@
 ghost use mathlib.Core.Path.{_≡_};
 ghost use mathlib.Core.Bool.{true};
 ghost use mathlib.Core.List.{[]};
-ghost use Prim.Native.Nat.{_+_, _*_, _<_, _≤_};
+ghost use Prim.Native.Nat.{_<_, _≤_};
 ghost use lib.ListN.{length};
-ghost use Rattle.cell.specs.Cell.{extentOf};
 ghost use Rattle.cell.specs.Refusals.{answerOf, firstRefusal};
-ghost use Rattle.selection.specs.Sound.{copiesIn};
-ghost use Rattle.selection.specs.Input.{inputRefusals};
+ghost use Rattle.pick_lists.specs.Sound.{copiesIn};
+ghost use Rattle.pick_lists.specs.Input.{inputRefusals};
 ghost use Rattle.touch.specs.Touch.{copiesTouch};
-ghost use Rattle.gates.specs.Gates.{gatesOf};
-ghost use Rattle.boxes.specs.Boxes.{Boxes};
 ghost use Rattle.cluster_table.specs.Table.{words, soundTable};
-ghost use Rattle.clusters.specs.Scan.{scanned};
 ghost use Rattle.clusters.specs.Answers.{rowTable, openRefusal, openLeaves, rowRefusal, rowLeaves, closeAnswer};
 use cell::Answer;
 use cell::Cell;
-use cell::limits::MAX_COPIES;
-use gates::Gates;
+use frame_limits::MAX_COPIES;
 
 // What Close answers: the largest, contacted and pair fractions.
 pub enum Closing {
@@ -67,7 +62,7 @@ pub fn scan_row(
 {
     let n = starts.len() - 1;
     let g = gates::gates_of(cell);
-    let s = boxes::span_of(solutes, selection::sound::copy_picks(starts, picks, i));
+    let s = boxes::span_of(solutes, pick_lists::copy_picks(starts, picks, i));
     let mut j = boxes::next_close(g, solutes, starts, picks, s, i + 1);
     while j < n {
         if boxes::row_touch(cell, g, solutes, starts, picks, i, j) {
@@ -90,7 +85,7 @@ pub fn row(
     ensures answer { λ r. ⌜ r ≡ answerOf (rowRefusal cell (now (solutes .entry)) (now (starts .entry)) (now (picks .entry)) (now (table .entry)) i) ⌝ }
     ensures after { λ r. ⌜ now (table .exit) ≡ rowLeaves cell (now (solutes .entry)) (now (starts .entry)) (now (picks .entry)) (now (table .entry)) i ⌝ }
 {
-    let refusal = selection::sound::input_refusal(cell, solutes, &solutes[..0], starts, picks);
+    let refusal = pick_lists::input_refusal(cell, solutes, &solutes[..0], starts, picks);
     if refusal != 0 {
         return Answer::Refused(refusal);
     }
@@ -109,85 +104,6 @@ pub fn row(
     }
     scan_row(cell, solutes, starts, picks, table, i);
     Answer::Accepted
-}
-
-// ---- every row
-
-// Row i as `scan_row`, given the cell's gates and the box table; `flags` is scratch.
-fn scan_boxed(
-    cell: Cell,
-    g: Gates,
-    solutes: &[f32],
-    starts: &[u32],
-    picks: &[u32],
-    room: &[f32],
-    flags: &mut [u32],
-    table: &mut [u32],
-    i: usize,
-)
-    requires { ⌜ firstRefusal (inputRefusals cell (now solutes) [] (now starts) (now picks)) ≡ 0 ⌝ }
-    requires { ⌜ (words (copiesIn (now starts)) ≤ length (now table)) × (soundTable (copiesIn (now starts)) (now table) ≡ true) × (i < copiesIn (now starts)) ⌝ }
-    requires { ⌜ (g ≡ gatesOf (extentOf cell)) × (6 * copiesIn (now starts) ≤ length (now room)) × (copiesIn (now starts) ≤ length (now flags)) ⌝ }
-    requires { ⌜ Boxes (now solutes) (now starts) (now picks) (now room) ⌝ }
-    ensures { λ _. ⌜ now (table .exit) ≡ rowTable (copiesTouch cell (now (solutes .entry)) (now (starts .entry)) (now (picks .entry))) (copiesIn (now (starts .entry))) i (now (table .entry)) ⌝ }
-{
-    let n = starts.len() - 1;
-    boxes::mark_apart(g, room, flags, n, i);
-    let mut k = i + 1;
-    while k < n {
-        if boxes::marked_touch(cell, g, solutes, starts, picks, room, flags, i, k) {
-            cluster_table::add_contact(table, n, i, k);
-        }
-        k += 1;
-    }
-    cluster_table::set_mark(table, n, i);
-}
-
-// Opens the table and scans every row in rising order, with the box table.
-fn scan_rows(
-    cell: Cell,
-    g: Gates,
-    solutes: &[f32],
-    starts: &[u32],
-    picks: &[u32],
-    room: &[f32],
-    flags: &mut [u32],
-    table: &mut [u32],
-)
-    requires { ⌜ firstRefusal (inputRefusals cell (now solutes) [] (now starts) (now picks)) ≡ 0 ⌝ }
-    requires { ⌜ words (copiesIn (now starts)) ≤ length (now table) ⌝ }
-    requires { ⌜ (g ≡ gatesOf (extentOf cell)) × (6 * copiesIn (now starts) ≤ length (now room)) × (copiesIn (now starts) ≤ length (now flags)) ⌝ }
-    requires { ⌜ Boxes (now solutes) (now starts) (now picks) (now room) ⌝ }
-    ensures { λ _. ⌜ now (table .exit) ≡ scanned cell (now (solutes .entry)) (now (starts .entry)) (now (picks .entry)) (now (table .entry)) ⌝ }
-{
-    let copies = starts.len() - 1;
-    cluster_table::open_table(table, copies);
-    let mut i = 0;
-    while i < copies {
-        scan_boxed(cell, g, solutes, starts, picks, room, flags, table, i);
-        i += 1;
-    }
-}
-
-// Opens the table and scans every row in rising order, for input that nothing refuses: the core of the whole frame. The box table is made once.
-pub fn scan_all(cell: Cell, solutes: &[f32], starts: &[u32], picks: &[u32], table: &mut [u32])
-    requires { ⌜ firstRefusal (inputRefusals cell (now solutes) [] (now starts) (now picks)) ≡ 0 ⌝ }
-    requires { ⌜ words (copiesIn (now starts)) ≤ length (now table) ⌝ }
-    ensures { λ _. ⌜ now (table .exit) ≡ scanned cell (now (solutes .entry)) (now (starts .entry)) (now (picks .entry)) (now (table .entry)) ⌝ }
-{
-    let mut room = [0f32; 24576];
-    let mut flags = [0u32; 4096];
-    boxes::fill_boxes(solutes, starts, picks, &mut room);
-    scan_rows(
-        cell,
-        gates::gates_of(cell),
-        solutes,
-        starts,
-        picks,
-        &room,
-        &mut flags,
-        table,
-    );
 }
 
 // ---- Close

@@ -3,13 +3,13 @@ use mathlib.Core.Path.{_≡_, refl}
 use mathlib.Core.List.{List, [], _∷_}
 use Prim.Native.Nat.{ℕ}
 use lib.Ieee.{Float, binary32, ofBits, ofInt, add, sub, mul, div, lt, le}
-use Rattle.numbers.specs.Convert.{narrowOf}
-use Rattle.numbers.specs.Root.{sqrtOf}
-use Rattle.numbers.specs.Whole.{floorOf, roundOf}
+use Rattle.floats.specs.Convert.{narrowOf}
+use Rattle.floats.specs.Root.{sqrtOf}
+use Rattle.floats.specs.Whole.{floorOf, roundOf}
 use Rattle.cell.specs.Cell.{extentOf, wrapAxis, wrap, imageAxis, minImage, squared, minus, distance2, pointAt}
 use Rattle.cell.proofs.Examples.{upTo}
-use Rattle.selection.specs.Sound.{copiesIn, pickList}
-use Rattle.dispersion.specs.Centers.{plus, dividedBy, unwrapped, sumFrom, anchorOf, centerOf, centersFrom, centersOf}
+use Rattle.pick_lists.specs.Sound.{copiesIn, pickList}
+use Rattle.centers.specs.Centers.{plus, dividedBy, unwrapped, sumFrom, anchorOf, centerOf, centersFrom, centersOf}
 use Rattle.dispersion.specs.Dispersion.{clamped, expectedOf, rowSum, pairSum, observedOf, scoreOf, dispersionOf}
 
 -- 16, and the solutes (2, 2, 2) and (4, 2, 2), a copy each

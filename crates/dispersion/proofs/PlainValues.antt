@@ -2,21 +2,17 @@
 -- asked of the size. Assumes nothing.
 use mathlib.Core.Path.{sym, subst}
 use mathlib.Core.Bool.{true, false}
-use Prim.Native.Nat.{ℕ, zero, suc, _+_, _*_, _≤_, _^_}
+use Prim.Native.Nat.{zero, suc, _+_, _*_}
 use native.Mathlib.Nat.{zero-lt-suc}
-use lib.IntN.{pos}
 use lib.Dec.{T, lt→ltb, ltb→lt}
-use lib.Ieee.{Float, nan, inf, fin, Format, prec, up, down, fits, add, div, ofInt}
-use lib.Ieee.Back.{round-whole}
-use lib.Ieee.Exact.{HasValue}
+use lib.Ieee.{Float, nan, inf, fin, Format, up, down, fits, add, div}
 use lib.Ieee.Positive.{positive, positive-finite}
 use lib.Ieee.Scale.{finite}
-use Rattle.numbers.specs.Convert.{narrowOf}
-use Rattle.numbers.specs.Root.{rootUnits, sqrtOf}
-use Rattle.numbers.proofs.Signs.{plain, plain-round, plain-units}
-use Rattle.numbers.proofs.Operations.{div-is}
-use Rattle.numbers.proofs.RootStandard.{root-is-nearest}
-use Rattle.numbers.proofs.SizeTests.{ofInt-is}
+use Rattle.floats.specs.Convert.{narrowOf}
+use Rattle.floats.specs.Root.{rootUnits, sqrtOf}
+use Rattle.floats.proofs.Signs.{plain, plain-round, plain-units}
+use Rattle.floats.proofs.Operations.{div-is}
+use Rattle.floats.proofs.RootStandard.{root-is-nearest}
 
 pub add-plain : (f : Format) (x y : Float) → T (plain x) → T (plain y) → T (plain (add f x y))
 unfolding add
@@ -72,7 +68,3 @@ sqrt-finite f (inf s) h p q = absurd p
 sqrt-finite f (fin true m e) h p q = absurd q
 sqrt-finite f (fin false zero e) h p q = tt
 sqrt-finite f (fin false (suc m) e) h p q = positive-finite (sqrtOf f (fin false (suc m) e)) (root-is-nearest f (fin false (suc m) e) h (lt→ltb 0 (suc m) (zero-lt-suc m)) .above-zero)
-
--- ---- a count, as a float
-pub count-value : (f : Format) (n : ℕ) → n ≤ 2 ^ prec f → HasValue (ofInt f (pos n)) false n 1
-count-value f n h = subst (λ (y : Float). HasValue y false n 1) (sym (ofInt-is f n)) (round-whole f false n h)

@@ -12,10 +12,10 @@ use Rattle.cell.specs.declared.Vec3.{Vec3}
 use Rattle.cell.specs.declared.Cell.{Cell}
 use Rattle.cell.specs.Cell.{epsilon, extentOf, distance2, pointAt}
 use Rattle.cell.specs.Tables.{over}
-use Rattle.selection.specs.Sound.{copiesIn}
-use Rattle.dispersion.specs.Centers.{centersOf}
+use Rattle.pick_lists.specs.Sound.{copiesIn}
+use Rattle.centers.specs.Centers.{centersOf}
 use Rattle.dispersion.specs.Dispersion.{clamped, expectedOf, rowSum, pairSum, observedOf, scoreOf, dispersionOf}
-use Rattle.dispersion.proofs.CenterList.{centers-length}
+use Rattle.centers.proofs.CenterList.{centers-length}
 
 pub few-pairs : (n : ℕ) → n ≤ 4096 → n * (n - 1) ≤ 4096 * 4095
 few-pairs n h =

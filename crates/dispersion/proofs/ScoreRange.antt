@@ -14,27 +14,27 @@ use lib.Ieee.Fits.{div-fits}
 use lib.Ieee.Positive.{positive, positive-of-value}
 use lib.Ieee.Scale.{finite}
 use borrow.Author.Tests.{ltb-false, le-ltb}
-use Rattle.numbers.specs.Root.{sqrtOf}
-use Rattle.numbers.proofs.Bounds.{exact-pow}
-use Rattle.numbers.proofs.Signs.{plain}
-use Rattle.numbers.proofs.Monotone.{square-plain}
-use Rattle.numbers.proofs.Quotients.{within-finite, div-within}
-use Rattle.numbers.proofs.Signed.{to-test}
+use Rattle.floats.specs.Root.{sqrtOf}
+use Rattle.floats.proofs.Bounds.{exact-pow}
+use Rattle.floats.proofs.Signs.{plain}
+use Rattle.floats.proofs.Monotone.{square-plain}
+use Rattle.floats.proofs.Quotients.{within-finite, div-within}
+use Rattle.floats.proofs.Signed.{to-test}
 use Rattle.cell.specs.declared.Vec3.{Vec3}
 use Rattle.cell.specs.declared.Cell.{Cell}
 use Rattle.cell.specs.Cell.{epsilon, extentOf, squared, minImage, minus, distance2, pointAt}
 use Rattle.cell.specs.Refusals.{firstRefusal}
 use Rattle.cell.proofs.Finite.{Sides, Around, squared-within, image-around, minus-around}
-use Rattle.cell.proofs.FiniteFrame.{limited}
-use Rattle.selection.specs.Sound.{copiesIn, pickList}
-use Rattle.selection.specs.Input.{inputRefusals}
-use Rattle.selection.proofs.SoundLists.{sound-lists}
-use Rattle.selection.proofs.InputRefusals.{input-accepted}
-use Rattle.dispersion.specs.Centers.{centerOf, centersOf}
+use Rattle.frame_limits.proofs.FiniteFrame.{limited}
+use Rattle.pick_lists.specs.Sound.{copiesIn, pickList}
+use Rattle.pick_lists.specs.Input.{inputRefusals}
+use Rattle.pick_lists.proofs.SoundLists.{sound-lists}
+use Rattle.pick_lists.proofs.InputRefusals.{input-accepted}
+use Rattle.centers.specs.Centers.{centerOf, centersOf}
 use Rattle.dispersion.specs.Dispersion.{clamped, expectedOf, rowSum, pairSum, observedOf, scoreOf, dispersionOf}
-use Rattle.dispersion.proofs.CenterList.{center-at}
-use Rattle.dispersion.proofs.FiniteCenters.{center-around}
-use Rattle.dispersion.proofs.PlainValues.{add-plain, div-plain, sqrt-plain, sqrt-finite, narrow-plain, count-value}
+use Rattle.centers.proofs.CenterList.{center-at}
+use Rattle.centers.proofs.FiniteCenters.{count-value, center-around}
+use Rattle.dispersion.proofs.PlainValues.{add-plain, div-plain, sqrt-plain, sqrt-finite, narrow-plain}
 use Rattle.dispersion.proofs.ScoreList.{few-pairs}
 
 pub record Scored (s : Float) : Type 0 where

@@ -1,27 +1,12 @@
--- The sums that the loops make, a term at a time: what is left from an index on decides. Assumes nothing.
+-- The sums of squared distances that the loops make, a term at a time: what is left from an index on decides. Assumes nothing.
 use mathlib.Core.Path.{_≡_}
 use mathlib.Core.List.{List}
 use Prim.Native.Nat.{ℕ, suc, _+_, _-_, _≤_, _<_}
-use native.Mathlib.Numerals.{add-one}
 use native.Mathlib.Omega.{arith}
-use lib.ListN.{length, getD, drop, drop-of-length-le}
-use lib.Seq.{drop-cons}
 use lib.Ieee.{Float, binary64, add}
 use Rattle.cell.specs.declared.Vec3.{Vec3}
-use Rattle.cell.specs.declared.Cell.{Cell}
 use Rattle.cell.specs.Cell.{distance2, pointAt}
-use Rattle.dispersion.specs.Centers.{plus, unwrapped, sumFrom}
 use Rattle.dispersion.specs.Dispersion.{rowSum, pairSum}
-
--- ---- over the picks of a copy
-module _ (c : Cell) (xs : List Float) (anchor s : Vec3) (ps : List ℕ) (j : ℕ) where
-  pub sum-more : j < length ps → sumFrom c xs anchor s (drop j ps) ≡ sumFrom c xs anchor (plus s (unwrapped c xs anchor (getD ps j 0))) (drop (j + 1) ps)
-  unfolding sumFrom
-  sum-more h = rw (add-one, drop-cons ps j 0)
-
-  pub sum-none : length ps ≤ j → sumFrom c xs anchor s (drop j ps) ≡ s
-  unfolding sumFrom
-  sum-none h = rw drop-of-length-le
 
 -- ---- over the centers after center i, and over the centers i
 left-more : (n j : ℕ) → j < n → n - j ≡ suc (n - (j + 1))

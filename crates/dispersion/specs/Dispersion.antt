@@ -5,16 +5,16 @@ use mathlib.Core.List.{List, [], _∷_}
 use lib.Dec.{ltb}
 use lib.IntN.{pos}
 use lib.Ieee.{Float, binary32, binary64, add, div, lt, le, ofInt, ofBits}
-use Rattle.numbers.specs.Convert.{narrowOf}
-use Rattle.numbers.specs.Root.{sqrtOf}
+use Rattle.floats.specs.Convert.{narrowOf}
+use Rattle.floats.specs.Root.{sqrtOf}
 use Rattle.cell.specs.declared.Vec3.{Vec3}
 use Rattle.cell.specs.declared.Cell.{Cell}
 use Rattle.cell.specs.Cell.{epsilon, extentOf, squared, distance2, pointAt}
 use Rattle.cell.specs.Refusals.{firstRefusal}
 use Rattle.cell.specs.Tables.{unlessRefused}
-use Rattle.selection.specs.Sound.{copiesIn}
-use Rattle.selection.specs.Input.{inputRefusals}
-use Rattle.dispersion.specs.Centers.{centersOf}
+use Rattle.pick_lists.specs.Sound.{copiesIn}
+use Rattle.pick_lists.specs.Input.{inputRefusals}
+use Rattle.centers.specs.Centers.{centersOf}
 use Rattle.dispersion.specs.declared.Dispersed.{Dispersed}
 use Rattle.dispersion.specs.declared.Dispersed.the-variants.{Score, Refused}
 

@@ -1,3 +1,2 @@
--- Centers of copies, and how evenly they are spread.
-pub mod Centers
+-- How evenly the centers of copies are spread.
 pub mod Dispersion

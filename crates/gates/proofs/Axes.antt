@@ -9,19 +9,19 @@ use lib.Dec.{T, lit≤}
 use lib.Ieee.{Float, nan, inf, fin, binary32, up, down, ofBits, mul, div, lt, le}
 use lib.Ieee.Scale.{finite}
 use borrow.Author.Tests.{not-true}
-use Rattle.numbers.proofs.Tests.{both}
-use Rattle.numbers.proofs.Bounds.{Within, exact-pow, mul-within, plain}
-use Rattle.numbers.proofs.Image.{round-keeps}
-use Rattle.numbers.proofs.Quotients.{within-finite, AtLeast, div-within}
-use Rattle.numbers.proofs.Monotone.{sub-mono, mul-mono-left}
+use Rattle.floats.proofs.Tests.{both}
+use Rattle.floats.proofs.Bounds.{Within, exact-pow, mul-within, plain}
+use Rattle.floats.proofs.Image.{round-keeps}
+use Rattle.floats.proofs.Quotients.{within-finite, AtLeast, div-within}
+use Rattle.floats.proofs.Monotone.{sub-mono, mul-mono-left}
 use Rattle.cell.specs.declared.Cell.{Cell}
 use Rattle.cell.specs.declared.Vec3.{Vec3}
 use Rattle.cell.specs.Cell.{imageAxis, validAxis, valid, extentOf, pointAt, finitePoint}
-use Rattle.cell.specs.Limits.{boundOver, anyOver, maxCoordinate, frameRefusals}
+use Rattle.frame_limits.specs.Limits.{boundOver, anyOver, maxCoordinate, frameRefusals}
 use Rattle.cell.specs.Refusals.{firstRefusal}
 use Rattle.cell.proofs.Finite.{Above, Side, Around, image-axis-within}
-use Rattle.cell.proofs.FrameRefusals.{frame-none}
-use Rattle.cell.proofs.FiniteFrame.{limited-cell, atom-around}
+use Rattle.frame_limits.proofs.FrameRefusals.{frame-none}
+use Rattle.frame_limits.proofs.FiniteFrame.{limited-cell, atom-around}
 use Rattle.gates.specs.Gates.{turnsOf, tested}
 
 -- ---- one axis

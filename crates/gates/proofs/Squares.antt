@@ -7,10 +7,10 @@ use lib.Dec.{T, lit≤}
 use lib.Ieee.{Float, binary32, ofBits, add, mul, lt, le}
 use lib.Ieee.Fits.{mul-fits, add-fits}
 use lib.Ieee.Scale.{finite}
-use Rattle.numbers.proofs.Bounds.{Within, exact-pow, mul-within, add-within, plain}
-use Rattle.numbers.proofs.Quotients.{within-finite}
-use Rattle.numbers.proofs.Signed.{lt-not-le, le-trans-finite}
-use Rattle.numbers.proofs.Monotone.{add-ge-first, add-ge-second, add-plain, square-plain, square-right, square-left}
+use Rattle.floats.proofs.Bounds.{Within, exact-pow, mul-within, add-within, plain}
+use Rattle.floats.proofs.Quotients.{within-finite}
+use Rattle.floats.proofs.Signed.{lt-not-le, le-trans-finite}
+use Rattle.floats.proofs.Monotone.{add-ge-first, add-ge-second, add-plain, square-plain, square-right, square-left}
 use Rattle.cell.specs.declared.Vec3.{Vec3}
 use Rattle.cell.specs.Cell.{squared}
 use Rattle.cell.proofs.Finite.{Around, squared-within}

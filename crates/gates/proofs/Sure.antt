@@ -8,11 +8,11 @@ use Prim.Native.Nat.{ℕ, _^_, _≤_}
 use lib.Dec.{T, lit≤}
 use lib.Ieee.{Float, nan, inf, fin, binary32, ofBits, round, neg, sub, mul, div, lt, le}
 use lib.Ieee.Scale.{finite}
-use Rattle.numbers.proofs.Tests.{holds, both}
-use Rattle.numbers.proofs.Bounds.{Within, exact-pow, sub-within, within-more}
-use Rattle.numbers.proofs.Quotients.{within-finite}
-use Rattle.numbers.proofs.Signs.{neg-finite}
-use Rattle.numbers.proofs.Signed.{le-trans-finite}
+use Rattle.floats.proofs.Tests.{holds, both}
+use Rattle.floats.proofs.Bounds.{Within, exact-pow, sub-within, within-more}
+use Rattle.floats.proofs.Quotients.{within-finite}
+use Rattle.floats.proofs.Signs.{neg-finite}
+use Rattle.floats.proofs.Signed.{le-trans-finite}
 use Rattle.cell.specs.Cell.{imageAxis}
 use Rattle.touch.specs.Touch.{cutoff2}
 use Rattle.gates.specs.declared.Gate.{Gate}

@@ -3,9 +3,9 @@
 use mathlib.Core.Bool.{Bool, not, cond, _&&_}
 use mathlib.Core.List.{List}
 use lib.Ieee.{Float, binary32, ofBits, neg, sub, mul, div, le, lt}
-use Rattle.numbers.specs.Whole.{roundOf}
+use Rattle.floats.specs.Whole.{roundOf}
 use Rattle.cell.specs.Cell.{imageAxis, valid}
-use Rattle.cell.specs.Limits.{boundOver, anyOver, maxCoordinate}
+use Rattle.frame_limits.specs.Limits.{boundOver, anyOver, maxCoordinate}
 use Rattle.cell.specs.declared.Cell.{Cell}
 use Rattle.cell.specs.declared.Vec3.{Vec3}
 use Rattle.touch.specs.Touch.{cutoff2}

@@ -8,14 +8,14 @@ use borrow.Author.Tests.{ltb-false}
 use lib.Dec.{lit<, lit≤}
 use lib.Ieee.{Float, nan, inf, fin, binary32, up, down, add, mul, lt, ofInt, ofBits, ofFields, round, size, span, climb, units, odd}
 use lib.Ieee.Fits.{down-pos}
-use Rattle.numbers.proofs.Bounds.{Within, exact-pow, round-within}
-use Rattle.numbers.proofs.Quotients.{AtLeast, div-within}
+use Rattle.floats.proofs.Bounds.{Within, exact-pow, round-within}
+use Rattle.floats.proofs.Quotients.{AtLeast, div-within}
 use Rattle.cell.specs.declared.Vec3.{Vec3}
 use Rattle.cell.specs.declared.Cell.{Cell}
 use Rattle.cell.specs.Cell.{epsilon, extentOf, volumeOf}
 use Rattle.cell.proofs.Finite.{Around, Sides, pow-more, add-pow, mul-pow, volume-within}
-use Rattle.cell.proofs.FiniteFrame.{Limited}
-use Rattle.octants.specs.declared.bounds.OctreeBounds.{OctreeBounds}
+use Rattle.frame_limits.proofs.FiniteFrame.{Limited}
+use Rattle.bounds.specs.declared.OctreeBounds.{OctreeBounds}
 use Rattle.leaf.specs.Leaf.{smaller, larger, twiceShell, expanded, roomVolume, densityOf}
 
 -- ---- volumes

@@ -13,13 +13,13 @@ use lib.Ieee.Fits.{div-fits, up-pos}
 use lib.Ieee.Bits.{ofBits-toBits}
 use lib.Ieee.Order.{round-mono}
 use lib.Ieee.Positive.{num, den, den-pos, positive, above, above-of-le, between, le→cross}
-use Rattle.numbers.proofs.Bounds.{Within}
-use Rattle.numbers.proofs.Operations.{div-is}
+use Rattle.floats.proofs.Bounds.{Within}
+use Rattle.floats.proofs.Operations.{div-is}
 use Rattle.cell.specs.declared.Cell.{Cell}
 use Rattle.cell.specs.Cell.{volumeOf}
 use Rattle.cell.proofs.Finite.{Around}
-use Rattle.cell.proofs.FiniteFrame.{Limited}
-use Rattle.octants.specs.declared.bounds.OctreeBounds.{OctreeBounds}
+use Rattle.frame_limits.proofs.FiniteFrame.{Limited}
+use Rattle.bounds.specs.declared.OctreeBounds.{OctreeBounds}
 use Rattle.leaf.specs.Leaf.{larger, densityOf, expanded, occupancyOf, occupancyWord}
 use Rattle.leaf.proofs.ExpectedBounds.{expected-within}
 

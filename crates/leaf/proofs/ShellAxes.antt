@@ -7,7 +7,7 @@ use borrow.Author.Tests.{not-true, not-false}
 use Rattle.cell.specs.Cell.{imageAxis, extentOf, minImage, minus}
 use Rattle.cell.specs.declared.Cell.{Cell}
 use Rattle.cell.specs.declared.Vec3.{Vec3}
-use Rattle.octants.specs.declared.bounds.OctreeBounds.{OctreeBounds}
+use Rattle.bounds.specs.declared.OctreeBounds.{OctreeBounds}
 use Rattle.leaf.specs.Leaf.{halfSide, withinHalf, inShell}
 
 -- one axis: center p, water q, the box's side and the cell's

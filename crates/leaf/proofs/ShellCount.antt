@@ -8,7 +8,7 @@ use native.Mathlib.Omega.{arith}
 use lib.Ieee.{Float}
 use Rattle.cell.specs.declared.Cell.{Cell}
 use Rattle.cell.specs.Cell.{pointAt}
-use Rattle.octants.specs.declared.bounds.OctreeBounds.{OctreeBounds}
+use Rattle.bounds.specs.declared.OctreeBounds.{OctreeBounds}
 use Rattle.leaf.specs.Leaf.{inShell, shellFrom}
 
 -- of the waters before i, n are in the shell

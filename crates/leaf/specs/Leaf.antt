@@ -6,12 +6,12 @@ use Prim.Native.Nat.{ℕ, zero, suc, _+_}
 use lib.Dec.{leb}
 use lib.IntN.{pos}
 use lib.Ieee.{Float, binary32, add, mul, div, neg, lt, le, ofInt, ofBits, toBits}
-use Rattle.numbers.specs.Root.{sqrtOf}
+use Rattle.floats.specs.Root.{sqrtOf}
 use Rattle.cell.specs.declared.Vec3.{Vec3}
 use Rattle.cell.specs.declared.Cell.{Cell}
 use Rattle.cell.specs.Cell.{epsilon, extentOf, minImage, minus, volumeOf, pointAt}
 use Rattle.dispersion.specs.Dispersion.{clamped}
-use Rattle.octants.specs.declared.bounds.OctreeBounds.{OctreeBounds}
+use Rattle.bounds.specs.declared.OctreeBounds.{OctreeBounds}
 use Rattle.leaf.specs.declared.Occupancy.{Occupancy}
 use Rattle.leaf.specs.declared.Occupancy.the-variants.{Dry, Ratio}
 

@@ -7,10 +7,10 @@ ghost use lib.ListN.{length};
 ghost use lib.Ieee.{binary32, sub};
 ghost use Rattle.cell.specs.Cell.{imageAxis};
 ghost use Rattle.leaf.specs.Leaf.{smaller as smallerOf, larger as largerOf, halfSide, withinHalf, inShell, shellFrom, expanded as expandedOf, roomVolume, densityOf, occupancyOf, occupancyWord, referenceLeaves, referenceVolume, partitionScore};
+use bounds::OctreeBounds;
 use cell::Cell;
 use cell::EPSILON;
 use cell::Vec3;
-use octants::bounds::OctreeBounds;
 
 // How wet a box is: dry (no water seen), or observed waters over expected ones.
 pub enum Occupancy {
@@ -178,7 +178,7 @@ pub fn partition_score(leaf_volume: f32, reference: f32, centers: usize) -> f32
     if reference <= EPSILON {
         return 0.0;
     }
-    let size = numbers::root::sqrt32(leaf_volume / reference);
-    let share = numbers::root::sqrt32(1.0 / centers as f32);
+    let size = roots::sqrt32(leaf_volume / reference);
+    let share = roots::sqrt32(1.0 / centers as f32);
     dispersion::clamp(size) * share
 }

@@ -14,7 +14,7 @@ use Rattle.listing.specs.declared.Listed.{Listed}
 use Rattle.listing.specs.declared.Listed.the-variants.{Written, Refused}
 use Rattle.listing.specs.Listing.{textRefusal, textAnswer, textAfter}
 use Rattle.cell.proofs.Tables.{placed-zero}
-use Rattle.listing.proofs.Writing.{Put}
+use Rattle.listing.proofs.Pieces.{Put}
 
 module _ (missing : Bool) (text out : List ℕ) where
   -- the two promises, of an answer and of the buffer afterwards

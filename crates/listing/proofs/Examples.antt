@@ -1,4 +1,4 @@
--- Document 01's listing, and small texts, as the definitions give them: `checked`, one statement for the lot. Assumes nothing.
+-- Document 01's listing, and the other texts, as the definitions give them: `checked`, one statement for the lot. Assumes nothing.
 use mathlib.Core.Path.{_≡_, refl}
 use mathlib.Core.Bool.{false}
 use mathlib.Core.List.{List, [], _∷_}
@@ -7,11 +7,9 @@ use lib.ListN.{replicate}
 use lib.Ieee.{Float, binary32, ofBits, toBits}
 use Rattle.cell.specs.Refusals.{firstRefusal}
 use Rattle.cell.specs.Tables.{over}
-use Rattle.listing.specs.Text.{ascii, glyph, digits, placesIn, places, decimal, hex}
+use Rattle.text.specs.Text.{ascii, glyph, digits, placesIn, places, decimal, hex, hexBits, occupancy}
 use Rattle.listing.specs.declared.Listed.the-variants.{Written, Refused}
 use Rattle.listing.specs.Listing.{
-  hexBits,
-  occupancy,
   refusedText,
   blankText,
   clustersLine,
@@ -48,13 +46,6 @@ pub record Checked : Type 0 where
   pub bytes : textAnswer (leavesMissing leaves 2) listed (replicate 200 0) ≡ Written 156
   -- more leaves than the table has
   pub missing : textAnswer (leavesMissing leaves 3) listed (replicate 200 0) ≡ Refused 7
-  -- numbers
-  pub zero-decimal : decimal 0 ≡ ascii "0"
-  pub ten-decimal : decimal 10 ≡ ascii "10"
-  pub most-decimal : decimal 18446744073709551615 ≡ ascii "18446744073709551615"
-  pub zero-hex : hex 0 ≡ ascii "00000000"
-  pub most-hex : hex 0xffff_ffff ≡ ascii "FFFFFFFF"
-  pub ratio : occupancy 0x89a_bcde ≡ ascii "089ABCDE"
   -- the other two texts; a buffer keeps what stands past the text, and all of it where the text has no room
   pub refusal : refusedText 14 ≡ ascii "refused 14\n"
   pub blank : textAfter false blankText (replicate 8 7) ≡ ascii "blank\n\u{7}\u{7}"
@@ -90,12 +81,6 @@ checked =
       listing = refl;
       bytes = refl;
       missing = refl;
-      zero-decimal = refl;
-      ten-decimal = refl;
-      most-decimal = refl;
-      zero-hex = refl;
-      most-hex = refl;
-      ratio = refl;
       refusal = refl;
       blank = refl;
       no-room = refl;

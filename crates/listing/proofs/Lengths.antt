@@ -10,9 +10,9 @@ use lib.Dec.{leb, eqb}
 use lib.ListN.{length, getD, length-append}
 use lib.Ieee.{Float, binary32, toBits}
 use borrow.Author.Tests.{le-leb, lt-leb}
-use Rattle.listing.specs.Text.{ascii, places, decimal, hex}
-use Rattle.listing.specs.Listing.{hexBits, occupancy, refusedText, clustersLine, dispersionLine, nodesLine, leafLine, leafLines, dryLine, listingText}
-use Rattle.listing.proofs.Numerals.{length-digits, places-few}
+use Rattle.text.specs.Text.{ascii, places, decimal, hex, hexBits, occupancy}
+use Rattle.listing.specs.Listing.{refusedText, clustersLine, dispersionLine, nodesLine, leafLine, leafLines, dryLine, listingText}
+use Rattle.text.proofs.Numerals.{length-digits, places-few}
 
 pub length-decimal : (n : ℕ) → length (decimal n) ≡ places n
 unfolding decimal

@@ -1,8 +1,6 @@
 -- The laws that the proofs of this crate cite.
--- how many digits a number has, found one division at a time
-pub mod Numerals
--- pieces of text written one after the other, or backwards
-pub mod Writing
+-- pieces of text written one after the other
+pub mod Pieces
 -- how many bytes the lines have
 pub mod Lengths
 -- a line written a word at a time

@@ -5,9 +5,9 @@ use mathlib.Core.List.{List, [], _∷_, _++_}
 use Prim.Native.Nat.{ℕ, zero, suc, _+_, _≤_, _<_}
 use native.Mathlib.Omega.{arith}
 use lib.ListN.{length, getD, drop}
-use Rattle.listing.specs.Text.{followed, line}
+use Rattle.text.specs.Text.{followed, line}
 use Rattle.cell.proofs.Tables.{Filling, filling-first}
-use Rattle.listing.proofs.Writing.{Put, piece-fits, piece, last-piece}
+use Rattle.listing.proofs.Pieces.{Put, piece-fits, piece, last-piece}
 
 -- the words from the k-th on begin with it
 line-next : (ws : List (List ℕ)) (k : ℕ) → suc k < length ws → line (drop k ws) ≡ followed (getD ws k []) 32 ++ line (drop (suc k) ws)

@@ -1,3 +1,2 @@
 -- The listing that program `frame` prints.
-pub mod Text
 pub mod Listing

@@ -1,24 +1,16 @@
 -- Document 01, program `frame`: what it prints, `refused` and the number, or `blank`, or the listing, and what a call that writes it
 -- into a lent buffer answers. Floats are bits in hexadecimal, other numbers decimal. Definitions only. Assumes nothing.
 use Prim.Native.Nat.{ℕ, zero, suc, _+_, _*_}
-use mathlib.Core.Bool.{Bool, cond, _||_}
+use mathlib.Core.Bool.{Bool, _||_}
 use mathlib.Core.List.{List, [], _∷_, _++_}
-use lib.Dec.{ltb, eqb}
+use lib.Dec.{ltb}
 use lib.ListN.{length, getD}
-use lib.Ieee.{Float, binary32, toBits}
+use lib.Ieee.{Float}
 use Rattle.cell.specs.Refusals.{refuse, firstRefusal}
 use Rattle.cell.specs.Tables.{over, unlessRefused}
-use Rattle.listing.specs.Text.{ascii, decimal, hex, line}
+use Rattle.text.specs.Text.{ascii, decimal, hex, hexBits, occupancy, line}
 use Rattle.listing.specs.declared.Listed.{Listed}
 use Rattle.listing.specs.declared.Listed.the-variants.{Written, Refused}
-
--- a float as its bits
-unfoldable pub hexBits : Float → List ℕ
-hexBits x = hex (toBits binary32 x)
-
--- an occupancy's word in the leaf table: `dry` where it is 0, else the ratio's bits
-unfoldable pub occupancy : ℕ → List ℕ
-occupancy w = cond (eqb w 0) (ascii "dry") (hex w)
 
 -- ---- the lines
 unfoldable pub refusedText : ℕ → List ℕ

@@ -6,8 +6,6 @@ ghost use Rattle.listing.specs.Listing.{refusedText, blankText, listingT
 
 // sizes.rt: how many bytes a text has
 mod sizes;
-// pieces.rt: words, numbers and floats, each written with the byte after it
-mod pieces;
 // lines.rt: the lines of the listing
 mod lines;
 
@@ -23,11 +21,11 @@ pub fn put_refused(n: u32, out: &mut [u8]) -> Listed
     ensures after { λ r. ⌜ now (out .exit) ≡ textAfter false (refusedText n) (now (out .entry)) ⌝ }
 {
     let number = n as usize;
-    if out.len() < 9 + sizes::decimal_places(number) {
+    if out.len() < 9 + text::decimal_places(number) {
         return Listed::Refused(7);
     }
-    let word = pieces::put_text(b"refused ", out, 0);
-    Listed::Written(pieces::put_number(number, b'\n', out, word))
+    let word = text::put_text(b"refused ", out, 0);
+    Listed::Written(text::put_number(number, b'\n', out, word))
 }
 
 // `blank`: 7, or the bytes written.
@@ -38,7 +36,7 @@ pub fn put_blank(out: &mut [u8]) -> Listed
     if out.len() < 6 {
         return Listed::Refused(7);
     }
-    Listed::Written(pieces::put_text(b"blank\n", out, 0))
+    Listed::Written(text::put_text(b"blank\n", out, 0))
 }
 
 // The listing, with the first `count` leaves of the leaf table: 7, also where the table has fewer, or the bytes written.

@@ -1,14 +1,14 @@
 // The lines of the listing, each written from entry `at` on; each answers where it ends.
-use crate::pieces::put_bits;
-use crate::pieces::put_number;
-use crate::pieces::put_occupancy;
-use crate::pieces::put_text;
-use crate::pieces::put_word;
+use text::put_bits;
+use text::put_number;
+use text::put_occupancy;
+use text::put_text;
+use text::put_word;
 ghost use mathlib.Core.Path.{_≡_};
 ghost use Prim.Native.Nat.{_+_, _*_, _<_, _≤_};
 ghost use lib.ListN.{length, getD};
 ghost use Rattle.cell.specs.Tables.{placed};
-ghost use Rattle.listing.specs.Text.{decimal, followed};
+ghost use Rattle.text.specs.Text.{decimal, followed};
 ghost use Rattle.listing.specs.Listing.{clustersLine, dispersionLine, nodesLine, leafLine, leafLines, dryLine, listingText};
 
 pub(crate) fn put_clusters(

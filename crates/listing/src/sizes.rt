@@ -1,23 +1,11 @@
 // How many bytes a text has.
+use text::decimal_places;
 ghost use mathlib.Core.Path.{_≡_};
 ghost use Prim.Native.Nat.{_+_, _*_, _<_, _≤_};
 ghost use lib.ListN.{length, getD};
 ghost use lib.Dec.{leb};
-ghost use Rattle.listing.specs.Text.{places};
-ghost use Rattle.listing.specs.Listing.{occupancy, leafLine, leafLines};
-
-// How many decimal digits n has: a usize has twenty at most.
-pub(crate) fn decimal_places(n: usize) -> usize
-    ensures { λ r. ⌜ (r ≡ places n) × (r ≤ 20) ⌝ }
-{
-    let mut k: usize = 1;
-    let mut m = n;
-    while m >= 10 {
-        m = m / 10;
-        k += 1;
-    }
-    k
-}
+ghost use Rattle.text.specs.Text.{places, occupancy};
+ghost use Rattle.listing.specs.Listing.{leafLine, leafLines};
 
 // `dry`, or eight digits.
 fn occupancy_size(w: u32) -> usize

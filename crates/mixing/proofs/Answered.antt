@@ -9,8 +9,9 @@ use lib.ListN.{length}
 use lib.Ieee.{Float}
 use borrow.Author.Tests.{ltb-false}
 use Rattle.cell.specs.Refusals.{firstRefusal}
-use Rattle.report.proofs.LeafList.{reported-few}
-use Rattle.report.specs.Report.{reportRoom, reportedLeaves}
+use Rattle.leaf_table.proofs.LeafList.{reported-few}
+use Rattle.leaf_table.specs.LeafTable.{reportedLeaves}
+use Rattle.report.specs.Report.{reportRoom}
 use Rattle.mixing.specs.declared.FrameAnswer.the-variants.{Blank, Mixed}
 use Rattle.mixing.specs.declared.FrameAnswer.{FrameAnswer}
 use Rattle.mixing.specs.Frame.{Frame, Tables, treeIn, sized, limited, blankHolds, refusedOr, mixedAnswer, frameRefusal, frameBlank, frameAnswer}

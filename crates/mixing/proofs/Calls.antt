@@ -3,10 +3,10 @@
 use mathlib.Core.Path.{_≡_, refl, sym, _∙_}
 use mathlib.Core.List.{[]}
 use Rattle.cell.specs.Refusals.{firstRefusal}
-use Rattle.cell.specs.Limits.{frameRefusals, limitRefusals}
-use Rattle.cell.proofs.FrameRefusals.{limit-chain, frame-chain}
-use Rattle.selection.proofs.InputRefusals.{input-sound}
-use Rattle.clusters.proofs.Scans.{scanned-closes}
+use Rattle.frame_limits.specs.Limits.{frameRefusals, limitRefusals}
+use Rattle.frame_limits.proofs.FrameRefusals.{limit-chain, frame-chain}
+use Rattle.pick_lists.proofs.InputRefusals.{input-sound}
+use Rattle.scan.proofs.Scans.{scanned-closes}
 use Rattle.dispersion.proofs.Answers.{dispersion-answered}
 use Rattle.tree.proofs.TreeRefusals.{test-none, call-room}
 use Rattle.report.specs.Report.{reportRoom, reportRefusal, reportAnswer}

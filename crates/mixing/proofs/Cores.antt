@@ -3,7 +3,7 @@ use mathlib.Core.Path.{_≡_, refl}
 use Prim.Native.Nat.{ℕ, zero, suc}
 use lib.ListN.{length}
 use Rattle.cluster_table.specs.Fractions.{tableFractions}
-use Rattle.clusters.specs.Scan.{scanned}
+use Rattle.scan.specs.Scan.{scanned}
 use Rattle.dispersion.specs.Dispersion.{dispersionOf}
 use Rattle.report.specs.Report.{reportAnswer}
 use Rattle.mixing.specs.Inner.{withReport}

@@ -8,16 +8,17 @@ use lib.Dec.{ltb}
 use lib.ListN.{length}
 use borrow.Author.Tests.{eq-eqb, ne-eqb}
 use Rattle.cell.specs.Refusals.{Refusal, firstRefusal}
-use Rattle.cell.specs.Limits.{limitRefusals, lengths, counts, bounds, coordinates}
+use Rattle.frame_limits.specs.Limits.{limitRefusals, lengths, counts, bounds, coordinates}
 use Rattle.cell.proofs.FirstRefusal.{numbered, append-hit, append-skip}
-use Rattle.cell.proofs.FrameRefusals.{limit-numbered}
+use Rattle.frame_limits.proofs.FrameRefusals.{limit-numbered}
 use Rattle.cell.proofs.Tables.{at-refusal}
 use Rattle.octree.specs.Tree.{treeRefusal}
 use Rattle.tree.specs.Tree.{byOutcome, roomRefusal}
 use Rattle.tree.proofs.TreeRefusals.{without, first-without}
 use Rattle.report.specs.Report.{reportRoom}
 use Rattle.mixing.specs.declared.FrameAnswer.the-variants.{Refused, Blank}
-use Rattle.mixing.specs.Frame.{Frame, Tables, treeIn, sizeRefusals, sized, tableRefusals, limited, blankHolds, frameRefusal, frameBlank, refusedOr, mixedAnswer, frameAnswer, worked, tablesAfter}
+use Rattle.frame_tests.specs.Tests.{sizeRefusals}
+use Rattle.mixing.specs.Frame.{Frame, Tables, treeIn, sized, tableRefusals, limited, blankHolds, frameRefusal, frameBlank, refusedOr, mixedAnswer, frameAnswer, worked, tablesAfter}
 
 -- what Report refuses over the frame's pick lists: 13 or nothing
 abbrev pub roomNumber : Frame → Tables → ℕ

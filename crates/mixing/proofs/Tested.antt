@@ -10,24 +10,25 @@ use lib.Seq.{take-at, take-append-seam}
 use borrow.Author.Tests.{ltb-false, not-false}
 use Rattle.cell.specs.Cell.{valid}
 use Rattle.cell.specs.Refusals.{refuse, firstRefusal}
-use Rattle.cell.specs.Limits.{long, longIndices}
+use Rattle.frame_limits.specs.Limits.{long, longIndices}
 use Rattle.cell.specs.Tables.{over}
 use Rattle.cell.proofs.FirstRefusal.{first-none, neither}
-use Rattle.cell.proofs.FrameRefusals.{Within, limit-none, within-solutes}
+use Rattle.frame_limits.proofs.FrameRefusals.{Within, limit-none, within-solutes}
 use Rattle.selection.specs.declared.Selected.the-variants.{Kept}
 use Rattle.selection.specs.Selection.{startsOf}
-use Rattle.selection.specs.Sound.{copiesIn, soundLists}
-use Rattle.selection.specs.Input.{inputRefusals}
+use Rattle.pick_lists.specs.Sound.{copiesIn, soundLists}
+use Rattle.pick_lists.specs.Input.{inputRefusals}
 use Rattle.selection.proofs.SelectRefusals.{Answers, selected, both-within}
 use Rattle.selection.proofs.SoundSelect.{select-sound, starts-length, starts-copies}
-use Rattle.selection.proofs.InputRefusals.{input-sound, input-accepted}
+use Rattle.pick_lists.proofs.InputRefusals.{input-sound, input-accepted}
 use Rattle.cluster_table.specs.Table.{words, soundTable}
-use Rattle.clusters.specs.Scan.{scanned}
-use Rattle.clusters.proofs.Scans.{scanned-long, scanned-sound}
-use Rattle.tree.specs.Points.{finiteWaters}
+use Rattle.scan.specs.Scan.{scanned}
+use Rattle.scan.proofs.Scans.{scanned-long, scanned-sound}
+use Rattle.points.specs.Points.{finiteWaters}
 use Rattle.tree.specs.Tree.{frameTree, centerOrderAfter, waterOrderAfter, recordsAfter, boxesAfter}
 use Rattle.report.specs.Report.{leavesAfter}
-use Rattle.mixing.specs.Frame.{Frame, Tables, lent, kept, startList, pickNumbers, treeIn, isBlank, sizeRefusals, sized, limited, blankHolds, worked, tablesAfter}
+use Rattle.frame_tests.specs.Tests.{isBlank, sizeRefusals}
+use Rattle.mixing.specs.Frame.{Frame, Tables, lent, kept, startList, pickNumbers, treeIn, sized, limited, blankHolds, worked, tablesAfter}
 use Rattle.mixing.proofs.Outcomes.{Passed, roomNumber, tables-worked}
 
 -- ---- what the limits establish

@@ -7,7 +7,7 @@ use Rattle.selection.specs.declared.Selected.the-variants.{Kept}
 use Rattle.selection.specs.Selection.{selectAnswer}
 use Rattle.clusters.specs.declared.Closing.the-variants.{Fractions}
 use Rattle.clusters.specs.Answers.{closeAnswer}
-use Rattle.clusters.specs.Scan.{scanned}
+use Rattle.scan.specs.Scan.{scanned}
 use Rattle.dispersion.specs.declared.Dispersed.the-variants.{Score}
 use Rattle.dispersion.specs.Dispersion.{dispersionAnswer}
 use Rattle.report.specs.declared.Reported.the-variants.{Leaves}

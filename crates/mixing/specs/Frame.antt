@@ -1,27 +1,27 @@
 -- Document 01, 'Whole frame': 1, 2, 3, 4; then blank; then 5, 6, 7, 13; otherwise Select, Open, the rows in rising order, Close,
 -- Dispersion and Report, with their answers and tables. Definitions only. Assumes nothing.
-use Prim.Native.Nat.{ℕ, _+_}
-use mathlib.Core.Bool.{Bool, cond, not, _&&_, _||_}
+use Prim.Native.Nat.{ℕ}
+use mathlib.Core.Bool.{Bool, cond, _&&_}
 use mathlib.Core.List.{List, [], _∷_, _++_}
-use lib.Dec.{ltb, eqb}
+use lib.Dec.{eqb}
 use lib.ListN.{length}
 use lib.Ieee.{Float}
 use Rattle.cell.specs.declared.Cell.{Cell}
-use Rattle.cell.specs.Cell.{valid}
-use Rattle.cell.specs.Refusals.{Refusal, refuse, firstRefusal}
-use Rattle.cell.specs.Limits.{maxCopies, maxPicks, limitRefusals}
+use Rattle.cell.specs.Refusals.{Refusal, firstRefusal}
+use Rattle.frame_limits.specs.Limits.{limitRefusals}
 use Rattle.cell.specs.Tables.{unlessRefused}
 use Rattle.selection.specs.Selection.{keptCopies, joined, startsOf, selectStarts, selectPicks}
-use Rattle.selection.specs.Sound.{copiesIn}
-use Rattle.cluster_table.specs.Table.{words}
+use Rattle.pick_lists.specs.Sound.{copiesIn}
 use Rattle.cluster_table.specs.Fractions.{tableFractions}
-use Rattle.clusters.specs.Scan.{scanned}
+use Rattle.scan.specs.Scan.{scanned}
 use Rattle.dispersion.specs.Dispersion.{dispersionOf}
 use Rattle.nodes.specs.Nodes.{deepest}
 use Rattle.octree.specs.Tree.{Subtrees}
-use Rattle.tree.specs.Points.{finiteWaters}
+use Rattle.points.specs.Points.{finiteWaters}
 use Rattle.tree.specs.Tree.{frameTree, roomRefusal, byOutcome, centerOrderAfter, waterOrderAfter, recordsAfter, boxesAfter}
-use Rattle.report.specs.Report.{reportRoom, reportedLeaves, dryLeaves, leavesAfter}
+use Rattle.leaf_table.specs.LeafTable.{reportedLeaves, dryLeaves}
+use Rattle.report.specs.Report.{reportRoom, leavesAfter}
+use Rattle.frame_tests.specs.Tests.{isBlank, sizeRefusals}
 use Rattle.mixing.specs.declared.FrameAnswer.{FrameAnswer}
 use Rattle.mixing.specs.declared.FrameAnswer.the-variants.{Refused, Blank, Mixed}
 
@@ -75,20 +75,8 @@ pickNumbers f = joined (kept f)
 unfoldable pub treeIn : Frame → Subtrees
 treeIn f = frameTree (f .cell) (f .solutes) (f .waters) (startList f) (pickNumbers f)
 
--- ---- refusals
--- the cell is not valid, a coordinate list is empty, no copy is kept or no water is finite
-unfoldable pub isBlank : Cell → List Float → List Float → ℕ → ℕ → Bool
-isBlank c solutes waters copies finite =
-    not (valid c) || (eqb (length solutes) 0 || (eqb (length waters) 0 || (eqb copies 0 || eqb finite 0)))
-
--- 5, 6 and 7 for so many copies, picks and finite waters, in tables of these lengths: the pick lists, the cluster table, the order lists
-unfoldable pub sizeRefusals : ℕ → ℕ → ℕ → ℕ → ℕ → ℕ → ℕ → ℕ → List Refusal
-sizeRefusals copies picked finite starts picks clusters centerOrder waterOrder =
-    refuse 5 (ltb maxCopies copies)
-    ∷ refuse 6 (ltb maxPicks picked)
-    ∷ refuse 7 ((ltb starts (copies + 1) || ltb picks picked) || (ltb clusters (words copies) || (ltb centerOrder copies || ltb waterOrder finite)))
-    ∷ []
-
+-- ---- refusals (blank and 5, 6, 7: `frame_tests`)
+-- 5, 6, 7 for the kept copies, their picks and the finite waters
 unfoldable pub sized : Frame → Tables → List Refusal
 sized f t =
     sizeRefusals (length (kept f)) (length (pickNumbers f)) (finiteWaters (f .waters))

@@ -1,12 +1,9 @@
 // The whole frame (document 01, 'Whole frame'): the input is tested once, all lengths are known before the first write, and then the
 // unchecked cores of Select, Open, Row, Close, Dispersion and Report run. Beside the lent tables it keeps on its stack what they keep.
 ghost use mathlib.Core.Path.{_≡_};
-ghost use Rattle.cell.specs.Refusals.{firstRefusal};
-ghost use Rattle.mixing.specs.Frame.{given, lent, isBlank, sizeRefusals, frameAnswer, tablesAfter};
+ghost use Rattle.mixing.specs.Frame.{given, lent, frameAnswer, tablesAfter};
 ghost use Rattle.mixing.specs.Inner.{withReport};
 use cell::Cell;
-use cell::limits::MAX_COPIES;
-use cell::limits::MAX_PICKS;
 use cluster_table::ClusterFractions;
 use report::Reported;
 
@@ -28,45 +25,6 @@ pub enum FrameAnswer {
         dry: usize,
     },
 }
-
-// ---- what is tested before the first write
-
-// Whether a frame with so many kept copies and finite waters is blank.
-fn is_blank(cell: Cell, solutes: &[f32], waters: &[f32], copies: usize, finite: usize) -> bool
-    ensures { λ r. ⌜ r ≡ isBlank cell (now (solutes .entry)) (now (waters .entry)) copies finite ⌝ }
-{
-    !cell::is_valid(cell)
-        | ((solutes.len() == 0) | ((waters.len() == 0) | ((copies == 0) | (finite == 0))))
-}
-
-// The first of 5, 6, 7 that holds, or 0: for so many copies, picks and finite waters, in tables of these lengths.
-fn size_refusal(
-    copies: usize,
-    picked: usize,
-    finite: usize,
-    starts: usize,
-    picks: usize,
-    clusters: usize,
-    center_order: usize,
-    water_order: usize,
-) -> u32
-    ensures { λ r. ⌜ r ≡ firstRefusal (sizeRefusals copies picked finite starts picks clusters «center_order» «water_order») ⌝ }
-{
-    if copies > MAX_COPIES {
-        return 5;
-    }
-    if picked > MAX_PICKS {
-        return 6;
-    }
-    if ((starts < copies + 1) | (picks < picked))
-        | ((clusters < 2 + 3 * copies) | ((center_order < copies) | (water_order < finite)))
-    {
-        return 7;
-    }
-    0
-}
-
-// ---- what is answered after the cores ran
 
 // Report's answer as the frame's, with the copies and picks, the fractions and the dispersion.
 fn with_report(
@@ -114,16 +72,16 @@ pub fn frame(
     ensures answer { λ r. ⌜ r ≡ frameAnswer (given cell (now (solutes .entry)) per (now (indices .entry)) (now (waters .entry))) (lent (now (starts .entry)) (now (picks .entry)) (now (clusters .entry)) (now («center_order» .entry)) (now («water_order» .entry)) (now (records .entry)) (now (boxes .entry)) (now (leaves .entry))) ⌝ }
     ensures tables { λ r. ⌜ lent (now (starts .exit)) (now (picks .exit)) (now (clusters .exit)) (now («center_order» .exit)) (now («water_order» .exit)) (now (records .exit)) (now (boxes .exit)) (now (leaves .exit)) ≡ tablesAfter (given cell (now (solutes .entry)) per (now (indices .entry)) (now (waters .entry))) (lent (now (starts .entry)) (now (picks .entry)) (now (clusters .entry)) (now («center_order» .entry)) (now («water_order» .entry)) (now (records .entry)) (now (boxes .entry)) (now (leaves .entry))) ⌝ }
 {
-    let refusal = cell::limits::limit_refusal(cell, solutes, waters, indices);
+    let refusal = frame_limits::limit_refusal(cell, solutes, waters, indices);
     if refusal != 0 {
         return FrameAnswer::Refused(refusal);
     }
     let n = selection::count(solutes, per, indices);
-    let finite = tree::count_waters(waters);
-    if is_blank(cell, solutes, waters, n.copies, finite) {
+    let finite = points::count_waters(waters);
+    if frame_tests::is_blank(cell, solutes, waters, n.copies, finite) {
         return FrameAnswer::Blank;
     }
-    let size = size_refusal(
+    let size = frame_tests::size_refusal(
         n.copies,
         n.picks,
         finite,
@@ -139,7 +97,7 @@ pub fn frame(
     selection::fill(solutes, per, indices, starts, picks);
     let firsts = &starts[..n.copies + 1];
     let picked = &picks[..n.picks];
-    clusters::scan_all(cell, solutes, firsts, picked, clusters);
+    scan::scan_all(cell, solutes, firsts, picked, clusters);
     let f = cluster_table::fractions(clusters, n.copies);
     let dispersion = dispersion::dispersion_of(cell, solutes, firsts, picked);
     let reported = report::report_of(

@@ -14,16 +14,17 @@ use Rattle.cell.specs.Tables.{unlessRefused}
 use Rattle.selection.specs.declared.Selected.the-variants as selected
 use Rattle.selection.specs.Selection.{keptCopies, joined, selectRefusal, selectAnswer, valuesOf}
 use Rattle.selection.proofs.SoundSelect.{select-room}
-use Rattle.octants.specs.Bounds.{cellBox}
+use Rattle.bounds.specs.Bounds.{cellBox}
 use Rattle.nodes.specs.Nodes.{Node, deepest}
 use Rattle.octree.proofs.Counting.{nodes-within}
 use Rattle.tree.specs.declared.TreeAnswer.the-variants as tree
-use Rattle.tree.specs.Points.{treeCenters, treeWaters}
+use Rattle.points.specs.Points.{treeCenters, treeWaters}
 use Rattle.tree.specs.Tree.{frameTree, testRefusals, treeCallRefusal, treeAnswer, treeAnswered}
 use Rattle.tree.proofs.TreeRefusals.{Tested, tested, call-tested}
 use Rattle.report.specs.declared.Reported.the-variants as report
-use Rattle.report.specs.Report.{isReported, reportedLeaves, dryLeaves, reportAnswer, reportAnswered}
-use Rattle.report.proofs.LeafList.{reported-few}
+use Rattle.leaf_table.specs.LeafTable.{isReported, reportedLeaves, dryLeaves}
+use Rattle.report.specs.Report.{reportAnswer, reportAnswered}
+use Rattle.leaf_table.proofs.LeafList.{reported-few}
 use Rattle.report.proofs.ReportOutcomes.{nodes-small}
 use Rattle.mixing.specs.declared.FrameAnswer.{FrameAnswer}
 use Rattle.mixing.specs.declared.FrameAnswer.the-variants.{Refused, Blank, Mixed}

@@ -1,12 +1,12 @@
 // The C interface: every call of document 01 over numbers and slices, as include/baithrum.h declares it. The result is the refusal's
 // number, 0 for success. The values of an answer go to the lent table `answers`, as many of them as it holds, floats as bits.
 ghost use mathlib.Core.Path.{_≡_};
-ghost use Rattle.selection.specs.Sound.{copiesIn};
+ghost use Rattle.pick_lists.specs.Sound.{copiesIn};
 ghost use Rattle.selection.specs.Selection.{selectRefusal, selectAnswer, valuesOf, selectStarts, selectPicks};
 ghost use Rattle.clusters.specs.Answers.{openRefusal, openLeaves, rowRefusal, rowLeaves, closeRefusal, closeAnswer, fractionsOf};
-ghost use Rattle.dispersion.specs.Centers.{centersRefusal, centersLeaves};
+ghost use Rattle.centers.specs.Centers.{centersRefusal, centersLeaves};
 ghost use Rattle.dispersion.specs.Dispersion.{dispersionRefusal, dispersionAnswer, dispersedValues};
-ghost use Rattle.tree.specs.Points.{finiteWaters};
+ghost use Rattle.points.specs.Points.{finiteWaters};
 ghost use Rattle.tree.specs.Tree.{frameTree, wholeRecords, treeCallRefusal, treeAnswer, treeAnswered, centerOrderAfter, waterOrderAfter, recordsAfter, boxesAfter};
 ghost use Rattle.report.specs.Report.{reportRefusal, reportAnswer, reportAnswered, leavesAfter};
 ghost use Rattle.mixing.specs.Frame.{given, lent, frameRefusal, frameAnswer, tablesAfter};
@@ -96,7 +96,7 @@ pub extern "C" fn baithrum_centers(
     ensures number { λ r. ⌜ r ≡ centersRefusal (cellOf lx ly lz hx hy hz) (now (solutes .entry)) (now (starts .entry)) (now (picks .entry)) (now (centers .entry)) ⌝ }
     ensures after { λ r. ⌜ now (centers .exit) ≡ centersLeaves (cellOf lx ly lz hx hy hz) (now (solutes .entry)) (now (starts .entry)) (now (picks .entry)) (now (centers .entry)) ⌝ }
 {
-    answers::number(dispersion::centers(
+    answers::number(centers::centers(
         answers::cell(lx, ly, lz, hx, hy, hz),
         solutes,
         starts,

@@ -3,9 +3,9 @@
 use mathlib.Core.List.{List, [], _∷_, _++_}
 use Prim.Native.Nat.{ℕ, zero, suc, _+_, _*_, _≤_, _<_, max}
 use lib.Ieee.{Float}
-use Rattle.cell.specs.Limits.{maxAtoms}
-use Rattle.octants.specs.declared.bounds.OctreeBounds.{OctreeBounds}
-use Rattle.octants.specs.Split.{maxDepth}
+use Rattle.frame_limits.specs.Limits.{maxAtoms}
+use Rattle.bounds.specs.declared.OctreeBounds.{OctreeBounds}
+use Rattle.division.specs.Split.{maxDepth}
 
 pub record Node : Type 0 where
   pub depth : ℕ

@@ -1,11 +1,11 @@
 // A tree's nodes in lent tables (document 01, 'Octree'): a node's record and box, and fresh tables.
-use octants::bounds::OctreeBounds;
+use bounds::OctreeBounds;
 ghost use mathlib.Core.Path.{_≡_};
 ghost use mathlib.Core.List.{[], _∷_};
 ghost use Prim.Native.Nat.{_≤_, _<_, _*_, _^_};
 ghost use lib.ListN.{length, replicate};
 ghost use lib.Ieee.{binary32, ofBits};
-ghost use Rattle.cell.specs.Limits.{maxAtoms};
+ghost use Rattle.frame_limits.specs.Limits.{maxAtoms};
 ghost use Rattle.cell.specs.Tables.{placed};
 ghost use Rattle.nodes.specs.Nodes.{cornersOf, firstNumbers, NodeFits};
 

@@ -6,7 +6,7 @@ ghost use mathlib.Core.Path.{_≡_};
 ghost use Prim.Native.Nat.{_^_, _<_, _≤_};
 ghost use lib.Ieee.{binary32, binary64, ofBits, toBits};
 ghost use lib.Ieee.Nearest.{closest};
-ghost use Rattle.numbers.specs.Convert.{narrowOf};
+ghost use Rattle.floats.specs.Convert.{narrowOf};
 
 // The f64 that is equal to x.
 pub fn widen(x: f32) -> f64

@@ -3,5 +3,4 @@
 // from float to float, for the layers above.
 pub mod class;
 pub mod convert;
-pub mod root;
 pub mod whole;

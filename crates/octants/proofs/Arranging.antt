@@ -14,8 +14,8 @@ use lib.Ieee.{Float, nan, lt}
 use borrow.Author.Tests.{lt-ltb, le-ltb, eq-eqb, ne-eqb}
 use Rattle.cell.specs.Cell.{pointAt}
 use Rattle.cell.specs.declared.Vec3.{Vec3}
-use Rattle.octants.specs.Bounds.{octantAt}
-use Rattle.octants.specs.Split.{select, octantPoints}
+use Rattle.bounds.specs.Bounds.{octantAt}
+use Rattle.octants.specs.Octants.{select, octantPoints}
 use Rattle.octants.specs.Inner.{sumBefore, listsFrom, byOctant}
 
 -- ---- octants

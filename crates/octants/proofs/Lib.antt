@@ -5,5 +5,3 @@ pub mod Selecting
 pub mod Arranging
 -- the counting sort by octant
 pub mod Sorting
--- how many octants a node visits
-pub mod Dividing

@@ -6,7 +6,7 @@ use Prim.Native.Nat.{ℕ, _+_, _<_}
 use native.Mathlib.Numerals.{add-one}
 use lib.ListN.{length, take, getD, set}
 use lib.Seq.{take-suc, take-suc-set}
-use Rattle.octants.specs.Split.{select}
+use Rattle.octants.specs.Octants.{select}
 
 cond-append : (t : Bool) (v : ℕ) (x y : List ℕ) → cond t (v ∷ (x ++ y)) (x ++ y) ≡ cond t (v ∷ x) x ++ y
 cond-append true v x y = refl

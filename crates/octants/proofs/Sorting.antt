@@ -13,9 +13,9 @@ use lib.Seq.{length-take-le, take-suc, take-all, take-suc-set, take-set-le, drop
 use lib.Ieee.{Float}
 use borrow.Author.Tests.{lt-ltb, eq-eqb, ne-eqb}
 use Rattle.cell.specs.declared.Vec3.{Vec3}
-use Rattle.octants.specs.Bounds.{octantAt}
-use Rattle.octants.specs.Split.{select, inOctant, octantPoints}
-use Rattle.octants.specs.Inner.{sumBefore, listsFrom, beside, byOctant, unsplit, Tallied, Dealable, Arranged, Divided}
+use Rattle.bounds.specs.Bounds.{octantAt}
+use Rattle.octants.specs.Octants.{select, inOctant, octantPoints}
+use Rattle.octants.specs.Inner.{sumBefore, listsFrom, beside, byOctant, Tallied, Dealable, Arranged}
 use Rattle.octants.proofs.Selecting.{select-append, select-yes, select-no}
 use Rattle.octants.proofs.Arranging.{octant-small, octant-few, three-ways, same-or-other, sum-within, sum-same, sum-one, lists-same, lists-whole, octants-sum}
 
@@ -243,12 +243,3 @@ module _ {points : List Float} {c : Vec3} {l ks counts : List ℕ} (t : Tallied 
           order = e ∙ lists-same (beside ks vs (length l)) (byOctant points c l) (beside-octant points c l ks vs (t .codes) saved) 8;
           count = t .count;
         }
-
--- ---- `divide`
-pub undivided : (points : List Float) (c : Vec3) (l counts : List ℕ) → counts ≡ replicate 8 0 → Divided points c 0 l l counts
-unfolding listsFrom unsplit
-undivided points c l counts e = record { order = refl; count = λ h. absurd (omega arith); still = λ h. e }
-
-pub divided : (points : List Float) (c : Vec3) (r : ℕ) (l₀ l counts : List ℕ) → r ≡ 8 → Arranged points c l₀ l counts → Divided points c r l₀ l counts
-unfolding unsplit
-divided points c r l₀ l counts e a = rw e (record { order = a .order ∙ sym (append-nil (listsFrom (byOctant points c l₀) 8)); count = λ h. a .count; still = λ h. absurd (omega (arith, h)) })

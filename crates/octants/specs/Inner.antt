@@ -1,5 +1,4 @@
--- What the contracts of splitting cite: what the counting sort works with, and what dividing a node asks and leaves.
--- Definitions only. Assumes nothing.
+-- What the contracts of the counting sort by octant cite. Definitions only. Assumes nothing.
 use mathlib.Core.Bool.{cond}
 use mathlib.Core.List.{List, [], _∷_, _++_}
 use mathlib.Core.Path.{_≡_}
@@ -8,12 +7,10 @@ use lib.Dec.{eqb}
 use lib.ListN.{length, getD, replicate}
 use lib.Ieee.{Float}
 use Rattle.cell.specs.declared.Vec3.{Vec3}
-use Rattle.cell.specs.Limits.{maxAtoms}
-use Rattle.octants.specs.declared.bounds.OctreeBounds.{OctreeBounds}
-use Rattle.octants.specs.Bounds.{octantAt}
-use Rattle.octants.specs.Split.{octantPoints, splits}
+use Rattle.frame_limits.specs.Limits.{maxAtoms}
+use Rattle.bounds.specs.Bounds.{octantAt}
+use Rattle.octants.specs.Octants.{octantPoints}
 
--- ---- the counting sort
 -- the sum of n 0, .., n (o - 1)
 unfoldable pub sumBefore : (ℕ → ℕ) → ℕ → ℕ
 sumBefore n zero = 0
@@ -57,20 +54,3 @@ pub record Sortable (l counts : List ℕ) (scratch codes : ℕ) : Type 0 where
 pub record Arranged (points : List Float) (c : Vec3) (l₀ l counts : List ℕ) : Type 0 where
   pub order : l ≡ listsFrom (byOctant points c l₀) 8
   pub count : (o : ℕ) → o < 8 → getD counts o 0 ≡ length (octantPoints points c o l₀)
-
--- ---- dividing a node
--- how many octants a node has to visit, `levels` above depth 14: all 8 where it splits, else none
-unfoldable pub octantsOf : ℕ → List ℕ → OctreeBounds → ℕ
-octantsOf zero cs b = 0
-octantsOf (suc levels) cs b = cond (splits b cs) 8 0
-
--- what stays of the list of a node that visits r octants: all where it does not split, else nothing
-unfoldable pub unsplit : ℕ → List ℕ → List ℕ
-unsplit zero l = l
-unsplit (suc r) l = []
-
--- what `divide` leaves of a list l₀ where the node visits r octants; counts of a node that visits none stay zero
-pub record Divided (points : List Float) (c : Vec3) (r : ℕ) (l₀ l counts : List ℕ) : Type 0 where
-  pub order : l ≡ listsFrom (byOctant points c l₀) r ++ unsplit r l₀
-  pub count : 0 < r → (o : ℕ) → o < 8 → getD counts o 0 ≡ length (octantPoints points c o l₀)
-  pub still : r ≡ 0 → counts ≡ replicate 8 0

@@ -1,4 +1,3 @@
--- Boxes and octants, when a node splits and the points of an octant, and what the contracts of splitting cite.
-pub mod Bounds
-pub mod Split
+-- The points of an octant, and what the contracts of the counting sort cite.
+pub mod Octants
 pub mod Inner

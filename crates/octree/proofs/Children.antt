@@ -9,10 +9,10 @@ use native.Mathlib.Omega.{arith}
 use lib.ListN.{length}
 use lib.Ieee.{Float}
 use borrow.Author.Tests.{eq-eqb, ne-eqb}
-use Rattle.octants.specs.declared.bounds.OctreeBounds.{OctreeBounds}
+use Rattle.bounds.specs.declared.OctreeBounds.{OctreeBounds}
 use Rattle.octree.specs.Tree.{Subtrees, Builder, none, join, whereSome, childrenFrom, subtree, rooted}
-use Rattle.octants.specs.Split.{splits}
-use Rattle.octants.specs.Inner.{octantsOf, unsplit}
+use Rattle.division.specs.Split.{splits}
+use Rattle.division.specs.Inner.{octantsOf, unsplit}
 
 -- ---- subtrees side by side
 pub join-none : (g : Subtrees) → join (none [] []) g ≡ g

@@ -9,9 +9,10 @@ use native.Mathlib.Nat.{mul-add, suc-mul, eq-zero-or-pos}
 use native.Mathlib.Omega.{arith}
 use lib.ListN.{length, getD, length-append}
 use lib.Ieee.{Float}
-use Rattle.octants.specs.declared.bounds.OctreeBounds.{OctreeBounds}
-use Rattle.octants.specs.Bounds.{childOf}
-use Rattle.octants.specs.Split.{octantPoints, splits}
+use Rattle.bounds.specs.declared.OctreeBounds.{OctreeBounds}
+use Rattle.bounds.specs.Bounds.{childOf}
+use Rattle.octants.specs.Octants.{octantPoints}
+use Rattle.division.specs.Split.{splits}
 use Rattle.nodes.specs.Nodes.{Node}
 use Rattle.octree.specs.Tree.{Subtrees, Builder, none, whereSome, rooted, childrenFrom, subtree, treeOf, pointNumbers}
 use Rattle.octants.specs.Inner.{listsFrom, byOctant}

@@ -8,8 +8,8 @@ use lib.Ieee.{Float, binary32, ofBits, ofFields, odd, units, round, span, climb,
 use Rattle.cell.specs.Cell.{pointAt}
 use Rattle.cell.specs.declared.Vec3.{Vec3}
 use Rattle.octree.specs.declared.Built.the-variants.{Nodes, Full}
-use Rattle.octants.specs.Bounds.{cellBox, childOf, wideBox, octantAt}
-use Rattle.octants.specs.Split.{select}
+use Rattle.bounds.specs.Bounds.{cellBox, childOf, wideBox, octantAt}
+use Rattle.octants.specs.Octants.{select}
 use Rattle.octree.specs.Tree.{Subtrees, whereSome, childrenFrom, subtree, treeOf, builtAnswer}
 use Rattle.nodes.specs.Nodes.{firstNumbers, deepest, recordsOf, boxesOf}
 

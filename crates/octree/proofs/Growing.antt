@@ -6,16 +6,18 @@ use native.Mathlib.Nat.{add-zero}
 use native.Mathlib.Omega.{arith}
 use lib.ListN.{length, length-append}
 use lib.Ieee.{Float}
-use Rattle.cell.specs.Limits.{maxAtoms}
+use Rattle.frame_limits.specs.Limits.{maxAtoms}
 use Rattle.cell.specs.Tables.{placed}
 use Rattle.cell.specs.declared.Vec3.{Vec3}
-use Rattle.octants.specs.declared.bounds.OctreeBounds.{OctreeBounds}
+use Rattle.bounds.specs.declared.OctreeBounds.{OctreeBounds}
 use Rattle.octree.specs.declared.Built.{Built}
-use Rattle.octants.specs.Bounds.{childOf}
-use Rattle.octants.specs.Split.{octantPoints, maxDepth}
+use Rattle.bounds.specs.Bounds.{childOf}
+use Rattle.octants.specs.Octants.{octantPoints}
+use Rattle.division.specs.Split.{maxDepth}
 use Rattle.octree.specs.Tree.{Subtrees, Builder, none, join, whereSome, childrenFrom}
 use Rattle.nodes.specs.Nodes.{deepest, recordsOf, boxesOf}
-use Rattle.octants.specs.Inner.{listsFrom, byOctant, unsplit, Divided}
+use Rattle.octants.specs.Inner.{listsFrom, byOctant}
+use Rattle.division.specs.Inner.{unsplit, Divided}
 use Rattle.octree.specs.Inner.{Filled}
 use Rattle.octree.proofs.Stretches.{Next, stretch, stretchPut, child-order, child-length}
 use Rattle.cell.proofs.Tables.{placed-none}

@@ -11,7 +11,5 @@ pub mod Stretches
 pub mod Growing
 -- the end of the loop, and what an answer tells
 pub mod Planting
--- from the builder's answer at the root to the whole tree's, and what that tells a caller
-pub mod Answering
 -- ---- document 01's listed frame, by the definitions
 pub mod Examples

@@ -5,9 +5,9 @@ use mathlib.Core.Path.{_≡_}
 use Prim.Native.Nat.{ℕ, _+_, _*_, _≤_, _<_}
 use lib.ListN.{length}
 use lib.Ieee.{Float}
-use Rattle.cell.specs.Limits.{maxAtoms}
+use Rattle.frame_limits.specs.Limits.{maxAtoms}
 use Rattle.cell.specs.Tables.{placed}
-use Rattle.octants.specs.Split.{maxDepth}
+use Rattle.division.specs.Split.{maxDepth}
 use Rattle.nodes.specs.Nodes.{deepest, recordsOf, boxesOf}
 use Rattle.octree.specs.declared.Built as Built
 use Rattle.octree.specs.declared.Built.{Built}

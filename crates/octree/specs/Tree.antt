@@ -7,11 +7,12 @@ use Prim.Native.Nat.{ℕ, zero, suc, _+_, _-_, _*_, _/_, _≤_, min}
 use lib.Dec.{eqb, ltb}
 use lib.ListN.{length, replicate}
 use lib.Ieee.{Float, binary32, ofBits}
-use Rattle.cell.specs.Limits.{maxAtoms}
+use Rattle.frame_limits.specs.Limits.{maxAtoms}
 use Rattle.cell.specs.Tables.{over, unlessRefused}
-use Rattle.octants.specs.declared.bounds.OctreeBounds.{OctreeBounds}
-use Rattle.octants.specs.Bounds.{childOf}
-use Rattle.octants.specs.Split.{maxDepth, splits, octantPoints}
+use Rattle.bounds.specs.declared.OctreeBounds.{OctreeBounds}
+use Rattle.bounds.specs.Bounds.{childOf}
+use Rattle.octants.specs.Octants.{octantPoints}
+use Rattle.division.specs.Split.{maxDepth, splits}
 use Rattle.nodes.specs.Nodes.{Node, deepest, recordsOf, boxesOf, firstNumbers}
 use Rattle.octree.specs.declared.Built.{Built}
 use Rattle.octree.specs.declared.Built.the-variants.{Nodes, Full}

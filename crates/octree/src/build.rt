@@ -1,12 +1,12 @@
 // The recursive builder (document 01, 'Octree'): a node, and in its own middle stretch of both order lists each of its children.
 use crate::Built;
+use bounds::OctreeBounds;
+use division::divide;
 use nodes::put_node;
-use octants::bounds::OctreeBounds;
-use octants::divide;
 ghost use mathlib.Core.Path.{_≡_};
 ghost use Prim.Native.Nat.{_-_, max};
 ghost use lib.ListN.{length};
-ghost use Rattle.octants.specs.Split.{maxDepth};
+ghost use Rattle.division.specs.Split.{maxDepth};
 ghost use Rattle.octree.specs.Tree.{subtree};
 ghost use Rattle.octree.specs.Inner.{Ready, Planted};
 
@@ -18,7 +18,7 @@ fn larger(a: usize, b: usize) -> usize
 
 // Builds the subtree of a box. Its centers and waters are the two order lists, whose first entries are number fc and fw of the whole.
 // Its nodes are numbered from `at` on, and there is room for `room` in all. Answers the number after its nodes and the greatest depth.
-pub(crate) fn build(
+pub fn build(
     b: OctreeBounds,
     depth: usize,
     centers: &[f32],

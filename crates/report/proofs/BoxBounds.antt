@@ -8,11 +8,11 @@ use lib.Bits.{bitAnd}
 use lib.Dec.{eqb, lit<, lit≤}
 use lib.Ieee.{Float, nan, inf, fin, binary32, unlike, up, down, add, mul, ofBits}
 use lib.Ieee.Fits.{down-pos}
-use Rattle.numbers.proofs.Bounds.{Within, exact-pow, round-within}
+use Rattle.floats.proofs.Bounds.{Within, exact-pow, round-within}
 use Rattle.cell.specs.declared.Vec3.{Vec3}
 use Rattle.cell.proofs.Finite.{Around, add-pow, sub-pow}
-use Rattle.octants.specs.declared.bounds.OctreeBounds.{OctreeBounds}
-use Rattle.octants.specs.Bounds.{middle, boxBetween, corner, childOf}
+use Rattle.bounds.specs.declared.OctreeBounds.{OctreeBounds}
+use Rattle.bounds.specs.Bounds.{middle, boxBetween, corner, childOf}
 use Rattle.leaf.proofs.ExpectedBounds.{cond-within}
 
 -- ---- one axis: half of a sum of two bounds is a bound again

@@ -2,22 +2,23 @@
 use mathlib.Core.Path.{_≡_, refl}
 use mathlib.Core.List.{List, [], _∷_}
 use lib.Ieee.{Float, binary32, ofBits, toBits, ofInt, add, sub, mul, div, neg, lt, le}
-use Rattle.numbers.specs.Whole.{floorOf, roundOf}
-use Rattle.numbers.specs.Root.{sqrtOf}
+use Rattle.floats.specs.Whole.{floorOf, roundOf}
+use Rattle.floats.specs.Root.{sqrtOf}
 use Rattle.cell.specs.declared.Cell.{Cell}
 use Rattle.cell.specs.Cell.{extentOf, wrapAxis, wrap, imageAxis, minImage, minus, volumeOf, pointAt, finitePoint}
 use Rattle.cell.proofs.Examples.{upTo}
-use Rattle.selection.specs.Sound.{pickList}
-use Rattle.dispersion.specs.Centers.{plus, dividedBy, unwrapped, sumFrom, anchorOf, centerOf, centersFrom, centersOf}
+use Rattle.pick_lists.specs.Sound.{pickList}
+use Rattle.centers.specs.Centers.{plus, dividedBy, unwrapped, sumFrom, anchorOf, centerOf, centersFrom, centersOf}
 use Rattle.dispersion.specs.Dispersion.{clamped}
-use Rattle.octants.specs.Bounds.{childOf, wideBox, octantAt}
-use Rattle.octants.specs.Split.{select}
+use Rattle.bounds.specs.Bounds.{childOf, wideBox, octantAt}
+use Rattle.octants.specs.Octants.{select}
 use Rattle.nodes.specs.Nodes.{Node, firstNumbers, deepest}
 use Rattle.octree.specs.Tree.{whereSome, childrenFrom, subtree, treeOf}
-use Rattle.tree.specs.Points.{wrapFrom, wrapFiniteFrom, treeCenters, treeWaters}
+use Rattle.points.specs.Points.{wrapFrom, wrapFiniteFrom, treeCenters, treeWaters}
 use Rattle.tree.specs.Tree.{frameTree}
 use Rattle.leaf.specs.Leaf.{smaller, larger, halfSide, withinHalf, inShell, shellFrom, expanded, roomVolume, densityOf, occupancyOf, referenceLeaves, referenceVolume, partitionScore}
-use Rattle.report.specs.Report.{leafWords, leavesFrom, leafTable, reportedLeaves, dryLeaves, reportAnswer}
+use Rattle.leaf_table.specs.LeafTable.{leafWords, leavesFrom, reportedLeaves, dryLeaves}
+use Rattle.report.specs.Report.{leafTable, reportAnswer}
 use Rattle.report.specs.declared.Reported.the-variants.{Leaves}
 
 -- ---- cell 0..16, solutes (2,2,2) and (4,2,2), one atom per copy, water (6,6,6)

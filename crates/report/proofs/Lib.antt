@@ -1,5 +1,3 @@
--- The leaf table, node by node.
-pub mod LeafList
 -- What holds of the box of every node of a tree.
 pub mod NodeBoxes
 -- Nodes read back from the node tables of a tree are its nodes.

@@ -6,9 +6,10 @@ use Prim.Native.Nat.{ℕ, zero, suc, _+_, _-_}
 use lib.Dec.{eqb}
 use lib.ListN.{length}
 use lib.Ieee.{Float}
-use Rattle.octants.specs.declared.bounds.OctreeBounds.{OctreeBounds}
-use Rattle.octants.specs.Bounds.{boxBetween, childOf}
-use Rattle.octants.specs.Split.{octantPoints, splits}
+use Rattle.bounds.specs.declared.OctreeBounds.{OctreeBounds}
+use Rattle.bounds.specs.Bounds.{boxBetween, childOf}
+use Rattle.octants.specs.Octants.{octantPoints}
+use Rattle.division.specs.Split.{splits}
 use Rattle.nodes.specs.Nodes.{Node}
 use Rattle.octree.specs.Tree.{Builder, none, whereSome, childrenFrom, subtree, treeOf, pointNumbers}
 

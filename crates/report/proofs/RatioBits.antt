@@ -9,16 +9,16 @@ use lib.ListN.{length, getD}
 use lib.Ieee.{Float, binary32, mul}
 use Rattle.cell.specs.declared.Cell.{Cell}
 use Rattle.cell.specs.Cell.{volumeOf}
-use Rattle.cell.specs.Limits.{long, frameRefusals}
+use Rattle.frame_limits.specs.Limits.{long, frameRefusals}
 use Rattle.cell.specs.Refusals.{firstRefusal}
-use Rattle.cell.proofs.FiniteFrame.{limited}
-use Rattle.cell.proofs.FrameRefusals.{frame-none}
-use Rattle.octants.specs.declared.bounds.OctreeBounds.{OctreeBounds}
-use Rattle.octants.specs.Bounds.{cellBox}
+use Rattle.frame_limits.proofs.FiniteFrame.{limited}
+use Rattle.frame_limits.proofs.FrameRefusals.{frame-none}
+use Rattle.bounds.specs.declared.OctreeBounds.{OctreeBounds}
+use Rattle.bounds.specs.Bounds.{cellBox}
 use Rattle.nodes.specs.Nodes.{Node}
-use Rattle.tree.specs.Points.{treeCenters, treeWaters, finiteWaters}
+use Rattle.points.specs.Points.{treeCenters, treeWaters, finiteWaters}
 use Rattle.tree.specs.Tree.{frameTree}
-use Rattle.tree.proofs.WaterList.{waters-length, waters-few}
+use Rattle.points.proofs.WaterList.{waters-length, waters-few}
 use Rattle.leaf.specs.Leaf.{densityOf, expanded, occupancyOf, occupancyWord}
 use Rattle.leaf.proofs.Ratios.{ratios-not-zero}
 use Rattle.report.proofs.NodeBoxes.{Boxed, no-box, one-box, tree-boxed}

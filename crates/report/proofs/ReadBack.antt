@@ -9,9 +9,9 @@ use lib.Seq.{getD-drop, drop-drop}
 use lib.Ieee.{Float, nan}
 use Rattle.cell.specs.Cell.{pointAt}
 use Rattle.cell.specs.Tables.{over}
-use Rattle.octants.specs.Bounds.{boxBetween}
+use Rattle.bounds.specs.Bounds.{boxBetween}
 use Rattle.nodes.specs.Nodes.{Node, recordOf, cornersOf, recordsOf, boxesOf}
-use Rattle.report.specs.Inner.{nodeAt, nodesFrom}
+use Rattle.leaf_table.specs.Inner.{nodeAt, nodesFrom}
 use Rattle.report.proofs.NodeBoxes.{Boxed, no-box, one-box, Between}
 
 -- entry j of a list from entry i on

@@ -12,24 +12,24 @@ use lib.Ieee.{Float}
 use Rattle.cell.specs.declared.Cell.{Cell}
 use Rattle.cell.specs.Tables.{over}
 use Rattle.cell.proofs.Tables.{at-refusal, number-answered}
-use Rattle.selection.specs.Sound.{copiesIn, soundLists}
-use Rattle.selection.proofs.SoundLists.{sound-lists}
-use Rattle.octants.specs.declared.bounds.OctreeBounds.{OctreeBounds}
-use Rattle.octants.specs.Bounds.{cellBox}
+use Rattle.pick_lists.specs.Sound.{copiesIn, soundLists}
+use Rattle.pick_lists.proofs.SoundLists.{sound-lists}
+use Rattle.bounds.specs.declared.OctreeBounds.{OctreeBounds}
+use Rattle.bounds.specs.Bounds.{cellBox}
 use Rattle.nodes.specs.Nodes.{Node, deepest, recordOf, recordsOf}
 use Rattle.octree.specs.Tree.{treeRefusal}
 use Rattle.nodes.proofs.NodeTables.{records-length, record-word}
 use Rattle.octree.proofs.Counting.{nodes-few, nodes-within}
-use Rattle.tree.specs.Points.{treeCenters, treeWaters, finiteWaters}
+use Rattle.points.specs.Points.{treeCenters, treeWaters, finiteWaters}
 use Rattle.tree.specs.Tree.{frameTree, recordsAfter, boxesAfter}
-use Rattle.tree.proofs.Wrapping.{point-over}
-use Rattle.tree.proofs.WaterList.{waters-length, waters-few}
-use Rattle.tree.proofs.Outcomes.{centers-size}
+use Rattle.points.proofs.Wrapping.{point-over, centers-size}
+use Rattle.points.proofs.WaterList.{waters-length, waters-few}
 use Rattle.leaf.specs.Leaf.{shellFrom, densityOf, referenceVolume}
-use Rattle.report.specs.Report.{leafWords, leavesFrom, leafTable, reportedLeaves, dryLeaves, reportAnswer, reportNumber, leavesAfter}
+use Rattle.leaf_table.specs.LeafTable.{leafWords, leavesFrom, reportedLeaves, dryLeaves}
+use Rattle.leaf_table.specs.Inner.{nodeAt, nodesFrom}
+use Rattle.report.specs.Report.{leafTable, reportAnswer, reportNumber, leavesAfter}
 use Rattle.report.specs.declared.Reported.{Reported}
 use Rattle.report.specs.declared.Reported.the-variants.{Leaves, Refused}
-use Rattle.report.specs.Inner.{nodeAt, nodesFrom}
 use Rattle.report.proofs.NodeBoxes.{tree-between}
 use Rattle.report.proofs.ReadBack.{read-back}
 

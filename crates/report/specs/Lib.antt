@@ -1,3 +1,2 @@
--- The leaf report: the leaf table, and what Report answers and leaves; and what only inner contracts cite.
+-- The leaf report: the leaf table of a frame's tree, and what Report answers and leaves.
 pub mod Report
-pub mod Inner

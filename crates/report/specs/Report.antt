@@ -1,67 +1,24 @@
--- Document 01, 'Leaf report' and Report: the leaf table, and what Report answers and leaves. Definitions only. Assumes nothing.
-use mathlib.Core.Bool.{Bool, cond, _&&_}
-use mathlib.Core.List.{List, [], _∷_, _++_}
-use Prim.Native.Nat.{ℕ, _+_, _/_, min}
-use lib.Dec.{ltb, eqb}
+-- Document 01, 'Leaf report' and Report: the leaf table of a frame's tree, and what Report answers and leaves. Definitions only. Assumes
+-- nothing.
+use mathlib.Core.List.{List, [], _∷_}
+use Prim.Native.Nat.{ℕ, _/_, min}
 use lib.ListN.{length, replicate}
-use lib.Ieee.{Float, binary32, mul, toBits}
+use lib.Ieee.{Float}
 use Rattle.cell.specs.declared.Cell.{Cell}
-use Rattle.cell.specs.Cell.{volumeOf}
 use Rattle.cell.specs.Tables.{over, unlessRefused}
-use Rattle.selection.specs.Sound.{copiesIn}
-use Rattle.octants.specs.declared.bounds.OctreeBounds.{OctreeBounds}
+use Rattle.pick_lists.specs.Sound.{copiesIn}
 use Rattle.nodes.specs.Nodes.{Node, deepest}
-use Rattle.tree.specs.Points.{treeWaters}
+use Rattle.points.specs.Points.{treeWaters}
 use Rattle.tree.specs.Tree.{treeCallRefusal, wholeRecords, byOutcome}
-use Rattle.leaf.specs.Leaf.{densityOf, expanded, shellFrom, occupancyOf, occupancyWord, referenceVolume, partitionScore}
+use Rattle.leaf.specs.Leaf.{densityOf, referenceVolume}
+use Rattle.leaf_table.specs.LeafTable.{leavesFrom, reportedLeaves, dryLeaves}
 use Rattle.report.specs.declared.Reported.{Reported}
 use Rattle.report.specs.declared.Reported.the-variants.{Leaves, Refused}
-
--- only leaves with centers are reported
-abbrev pub isReported : Node → Bool
-isReported v = eqb (v .children) 0 && ltb 0 (v .centers)
-
--- eight words: node i, its centers, its waters, box occupancy, shell waters, shell occupancy, partition score, 0; by the density, the
--- reference and the m wrapped finite waters ws of the frame
-unfoldable pub leafWords : Cell → Float → Float → List Float → ℕ → ℕ → ℕ → ℕ → OctreeBounds → List ℕ
-unfolding expanded shellFrom occupancyOf partitionScore
-leafWords c density reference ws m i centers waters b =
-    let volume = volumeOf (b .extent) in
-    let shell = shellFrom c b ws m 0 in
-    i
-    ∷ centers
-    ∷ waters
-    ∷ occupancyWord (occupancyOf waters (mul binary32 density volume))
-    ∷ shell
-    ∷ occupancyWord (occupancyOf shell (mul binary32 density (volumeOf (expanded c b))))
-    ∷ toBits binary32 (partitionScore volume reference centers)
-    ∷ 0
-    ∷ []
-
-abbrev pub nodeWords : Cell → Float → Float → List Float → ℕ → ℕ → Node → List ℕ
-nodeWords c density reference ws m i v = leafWords c density reference ws m i (v .centers) (v .waters) (v .box)
-
--- the reported leaves among nodes numbered from i on, in node order
-unfoldable pub leavesFrom : Cell → Float → Float → List Float → ℕ → ℕ → List Node → List ℕ
-unfolding leafWords
-leavesFrom c density reference ws m i [] = []
-leavesFrom c density reference ws m i (v ∷ vs) =
-    let rest = leavesFrom c density reference ws m (i + 1) vs in
-    cond (isReported v) (nodeWords c density reference ws m i v ++ rest) rest
 
 -- the leaf table of a frame's tree: its cell, copies and wrapped finite waters
 unfoldable pub leafTable : Cell → ℕ → List Float → List Node → List ℕ
 unfolding leavesFrom densityOf referenceVolume
 leafTable c copies ws vs = let m = length ws / 3 in leavesFrom c (densityOf c m) (referenceVolume c copies) ws m 0 vs
-
-unfoldable pub reportedLeaves : List Node → ℕ
-reportedLeaves [] = 0
-reportedLeaves (v ∷ vs) = cond (isReported v) 1 0 + reportedLeaves vs
-
--- the reported leaves with no water in their own box
-unfoldable pub dryLeaves : List Node → ℕ
-dryLeaves [] = 0
-dryLeaves (v ∷ vs) = cond (isReported v && eqb (v .waters) 0) 1 0 + dryLeaves vs
 
 -- ---- Report
 -- the whole records of the smallest of three node tables

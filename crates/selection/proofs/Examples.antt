@@ -6,7 +6,8 @@ use Prim.Native.Nat.{ℕ, _*_}
 use lib.ListN.{replicate}
 use lib.Ieee.{Float, binary32, ofBits}
 use Rattle.cell.specs.Cell.{finitePoint, pointAt}
-use Rattle.selection.specs.Selection.{finiteAtom, finiteFrom, indexed, picked, copiesFrom, chunks, keptCopies}
+use Rattle.pick_lists.specs.Sound.{finiteAtom}
+use Rattle.selection.specs.Selection.{finiteFrom, indexed, picked, copiesFrom, chunks, keptCopies}
 
 abbrev pub atoms : ℕ → List Float
 atoms n = replicate (n * 3) (ofBits binary32 0x3F80_0000)

@@ -7,13 +7,7 @@ pub mod Copies
 pub mod Writing
 -- Select's refusals, the lists' first, and what each return answers and leaves
 pub mod SelectRefusals
--- the tests of sound pick lists, an element at a time, and what sound pick lists have
-pub mod SoundLists
 -- what Select writes is sound
 pub mod SoundSelect
--- the refusals that every call on pick lists makes first
-pub mod InputRefusals
--- the picks of one copy
-pub mod CopyPicks
 -- document 01's checked frames on this layer, worked out
 pub mod Examples

@@ -12,7 +12,8 @@ use lib.ListN.{length, getD, drop, drop-of-length-le}
 use lib.Seq.{drop-cons}
 use lib.Ieee.{Float}
 use Rattle.cell.proofs.Tables.{length-none}
-use Rattle.selection.specs.Selection.{finiteAtom, finiteFrom, indexed, orElse, picked}
+use Rattle.pick_lists.specs.Sound.{finiteAtom}
+use Rattle.selection.specs.Selection.{finiteFrom, indexed, orElse, picked}
 
 -- ---- by the indices
 module _ (xs : List Float) (per base : ℕ) (is : List ℕ) (j : ℕ) where

@@ -10,7 +10,7 @@ use lib.ListN.{length}
 use borrow.Author.Tests.{ltb-false, le-ltb}
 use lib.Ieee.{Float}
 use Rattle.cell.specs.Refusals.{Refusal, firstRefusal}
-use Rattle.cell.specs.Limits.{lengths, counts, coordinates, ragged, long, longIndices, anyOver, maxCoordinate, maxIndices, maxCopies, maxPicks}
+use Rattle.frame_limits.specs.Limits.{lengths, counts, coordinates, ragged, long, longIndices, anyOver, maxCoordinate, maxIndices, maxCopies, maxPicks}
 use Rattle.cell.specs.Tables.{over}
 use Rattle.cell.proofs.FirstRefusal.{numbered, first-none, append-hit, append-skip, neither}
 use Rattle.cell.proofs.Tables.{at-refusal}

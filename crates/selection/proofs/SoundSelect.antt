@@ -11,14 +11,15 @@ use lib.ListN.{length, getD, take, drop, length-append}
 use lib.Seq.{take-append-seam, take-at, drop-append-add}
 use lib.Ieee.{Float}
 use borrow.Author.Tests.{lt-ltb, ltb-true, ltb-false}
-use Rattle.cell.specs.Limits.{maxCopies, maxPicks, lengths, counts, coordinates}
+use Rattle.frame_limits.specs.Limits.{maxCopies, maxPicks, lengths, counts, coordinates}
 use Rattle.cell.specs.Refusals.{refuse, firstRefusal}
 use Rattle.cell.specs.Tables.{over}
 use Rattle.cell.proofs.FirstRefusal.{first-none}
-use Rattle.selection.specs.Selection.{finiteAtom, finiteFrom, indexed, orElse, picked, keep, copiesFrom, chunks, keptCopies, joined, startsFrom, startsOf, listRefusals, roomRefusals, selectRefusals, selectRefusal, selectStarts, selectPicks}
-use Rattle.selection.specs.Sound.{rises, allFinite, copiesIn, soundLists}
+use Rattle.pick_lists.specs.Sound.{finiteAtom}
+use Rattle.selection.specs.Selection.{finiteFrom, indexed, orElse, picked, keep, copiesFrom, chunks, keptCopies, joined, startsFrom, startsOf, listRefusals, roomRefusals, selectRefusals, selectRefusal, selectStarts, selectPicks}
+use Rattle.pick_lists.specs.Sound.{rises, allFinite, copiesIn, soundLists}
 use Rattle.selection.proofs.SelectRefusals.{both-within}
-use Rattle.selection.proofs.SoundLists.{starts-sound}
+use Rattle.pick_lists.proofs.SoundLists.{starts-sound}
 
 -- ---- what is picked of a copy whose atoms are there is finite
 module _ (xs : List Float) where

@@ -1,4 +1,2 @@
--- Which atoms count: Select, and what sound pick lists are.
+-- Which atoms count: Select.
 pub mod Selection
-pub mod Sound
-pub mod Input

@@ -1,19 +1,16 @@
 -- Document 01, 'Selection' and Select. Atoms are numbered among all solute atoms. Definitions only. Assumes nothing.
 use Prim.Native.Nat.{ℕ, zero, suc, _+_, _/_}
-use mathlib.Core.Bool.{Bool, cond, _&&_, _||_}
+use mathlib.Core.Bool.{cond, _&&_, _||_}
 use mathlib.Core.List.{List, [], _∷_, _++_}
 use lib.Dec.{ltb}
 use lib.ListN.{length}
 use lib.Ieee.{Float}
-use Rattle.cell.specs.Cell.{pointAt, finitePoint}
-use Rattle.cell.specs.Limits.{maxCopies, maxPicks, lengths, counts, coordinates}
+use Rattle.frame_limits.specs.Limits.{maxCopies, maxPicks, lengths, counts, coordinates}
 use Rattle.cell.specs.Refusals.{Refusal, refuse, firstRefusal}
 use Rattle.cell.specs.Tables.{over, unlessRefused}
+use Rattle.pick_lists.specs.Sound.{finiteAtom}
 use Rattle.selection.specs.declared.Selected.{Selected}
 use Rattle.selection.specs.declared.Selected.the-variants.{Refused, Kept}
-
-unfoldable pub finiteAtom : List Float → ℕ → Bool
-finiteAtom xs k = finitePoint (pointAt xs k)
 
 -- the finite atoms among the n from number k on
 unfoldable pub finiteFrom : List Float → ℕ → ℕ → List ℕ

@@ -1,20 +1,14 @@
-// Which atoms count (document 01, 'Selection'): Select, and whether pick lists are sound (8).
+// Which atoms count (document 01, 'Selection'): Select.
 // Select passes over the copies twice: it counts before it writes, so that a refusal changes nothing.
 ghost use mathlib.Core.Path.{_≡_};
 ghost use Prim.Native.Nat.{_+_, _*_, _≤_, _<_};
-ghost use mathlib.Core.Bool.{_&&_};
-ghost use lib.Dec.{ltb};
 ghost use lib.ListN.{length};
 ghost use Rattle.cell.specs.Refusals.{firstRefusal};
 ghost use Rattle.cell.specs.Tables.{placed, over};
-ghost use Rattle.selection.specs.Selection.{finiteAtom, finiteFrom, indexed, picked, keptCopies, joined, startsOf, listRefusals, roomRefusals, selectAnswer, selectStarts, selectPicks};
-
-// sound.rt: whether pick lists are sound
-pub mod sound;
-
-use cell::limits::MAX_COPIES;
-use cell::limits::MAX_INDICES;
-use cell::limits::MAX_PICKS;
+ghost use Rattle.selection.specs.Selection.{finiteFrom, indexed, picked, keptCopies, joined, startsOf, listRefusals, roomRefusals, selectAnswer, selectStarts, selectPicks};
+use frame_limits::MAX_COPIES;
+use frame_limits::MAX_INDICES;
+use frame_limits::MAX_PICKS;
 
 // What Select answers: a refusal by its number, or the kept copies and the picks.
 pub enum Selected {
@@ -28,25 +22,6 @@ pub struct Counted {
     pub picks: usize,
 }
 
-// Whether solute atom k is finite.
-pub fn finite_atom(xs: &[f32], k: usize) -> bool
-    requires { ⌜ k * 3 + 2 < length (now xs) ⌝ }
-    ensures { λ r. ⌜ r ≡ finiteAtom (now (xs .entry)) k ⌝ }
-{
-    cell::is_finite(cell::point(xs, k))
-}
-
-// Whether index i names a finite atom of the copy at base.
-fn named(xs: &[f32], per: usize, base: usize, i: usize) -> bool
-    requires { ⌜ (base + per) * 3 ≤ length (now xs) ⌝ }
-    ensures { λ r. ⌜ r ≡ (ltb i per && finiteAtom (now (xs .entry)) (base + i)) ⌝ }
-{
-    if i < per {
-        return finite_atom(xs, base + i);
-    }
-    false
-}
-
 fn count_indexed(xs: &[f32], per: usize, base: usize, indices: &[u32]) -> usize
     requires { ⌜ (base + per) * 3 ≤ length (now xs) ⌝ }
     ensures { λ r. ⌜ r ≡ length (indexed (now (xs .entry)) per base (now (indices .entry))) ⌝ }
@@ -54,7 +29,7 @@ fn count_indexed(xs: &[f32], per: usize, base: usize, indices: &[u32]) -> usize
     let mut n: usize = 0;
     let mut j = 0;
     while j < indices.len() {
-        if named(xs, per, base, indices[j] as usize) {
+        if pick_lists::named(xs, per, base, indices[j] as usize) {
             n += 1;
         }
         j += 1;
@@ -69,7 +44,7 @@ fn count_finite(xs: &[f32], per: usize, base: usize) -> usize
     let mut n: usize = 0;
     let mut k: usize = 0;
     while k < per {
-        if finite_atom(xs, base + k) {
+        if pick_lists::finite_atom(xs, base + k) {
             n += 1;
         }
         k += 1;
@@ -129,7 +104,7 @@ fn put_indexed(
     let mut j = 0;
     while j < indices.len() {
         let i = indices[j] as usize;
-        if named(xs, per, base, i) {
+        if pick_lists::named(xs, per, base, i) {
             picks[end] = (base + i) as u32;
             end += 1;
         }
@@ -148,7 +123,7 @@ fn put_finite(xs: &[f32], per: usize, base: usize, picks: &mut [u32], at: usize)
     let mut k: usize = 0;
     while k < per {
         let atom = base + k;
-        if finite_atom(xs, atom) {
+        if pick_lists::finite_atom(xs, atom) {
             picks[end] = atom as u32;
             end += 1;
         }
@@ -208,13 +183,13 @@ pub fn fill(xs: &[f32], per: usize, indices: &[u32], starts: &mut [u32], picks: 
 fn list_refusal(solutes: &[f32], indices: &[u32]) -> u32
     ensures { λ r. ⌜ r ≡ firstRefusal (listRefusals (now (solutes .entry)) (now (indices .entry))) ⌝ }
 {
-    if cell::limits::ragged(solutes) {
+    if frame_limits::ragged(solutes) {
         return 1;
     }
-    if cell::limits::long(solutes) | (indices.len() > MAX_INDICES) {
+    if frame_limits::long(solutes) | (indices.len() > MAX_INDICES) {
         return 2;
     }
-    if cell::limits::coordinate_over(solutes) {
+    if frame_limits::coordinate_over(solutes) {
         return 4;
     }
     0

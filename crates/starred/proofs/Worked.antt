@@ -5,19 +5,21 @@ use mathlib.Core.List.{[]}
 use lib.Dec.{eqb}
 use lib.ListN.{length}
 use lib.Ieee.{ofBits, toBits, ofInt, neg, sub, mul, div, lt, le}
-use Rattle.numbers.specs.Root.{sqrtOf}
-use Rattle.numbers.specs.Whole.{floorOf, roundOf}
+use Rattle.floats.specs.Root.{sqrtOf}
+use Rattle.floats.specs.Whole.{floorOf, roundOf}
 use Rattle.cell.specs.declared.Vec3.{Vec3}
 use Rattle.cell.specs.declared.Cell.{Cell}
 use Rattle.cell.specs.Cell.{extentOf, validAxis, valid, wrapAxis, wrap, imageAxis, minImage, volumeOf, pointAt, finitePoint}
 use Rattle.cell.specs.Refusals.{firstRefusal}
-use Rattle.cell.specs.Limits.{over, anyOver, ragged, long, longIndices, boundOver, lengths, counts, bounds, coordinates, limitRefusals}
-use Rattle.selection.specs.Selection.{finiteAtom, finiteFrom, indexed, picked, copiesFrom, chunks, keptCopies}
+use Rattle.frame_limits.specs.Limits.{over, anyOver, ragged, long, longIndices, boundOver, lengths, counts, bounds, coordinates, limitRefusals}
+use Rattle.pick_lists.specs.Sound.{finiteAtom}
+use Rattle.selection.specs.Selection.{finiteFrom, indexed, picked, copiesFrom, chunks, keptCopies}
 use Rattle.dispersion.specs.Dispersion.{clamped}
 use Rattle.dispersion.proofs.Examples.{checked}
-use Rattle.tree.specs.Points.{finiteWaters}
+use Rattle.points.specs.Points.{finiteWaters}
 use Rattle.leaf.specs.Leaf.{larger, roomVolume, referenceLeaves, referenceVolume, partitionScore}
-use Rattle.mixing.specs.Frame.{Frame, given, kept, isBlank, limited, blankHolds}
+use Rattle.frame_tests.specs.Tests.{isBlank}
+use Rattle.mixing.specs.Frame.{Frame, given, kept, limited, blankHolds}
 use Rattle.mixing.proofs.Outcomes.{outcome-blank}
 use Rattle.starred.specs.Starred.{Starred, WithinLimits, AnswersBlank, alike, upTo, atoms}
 

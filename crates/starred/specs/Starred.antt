@@ -5,13 +5,13 @@ use mathlib.Core.Bool.{true, false}
 use mathlib.Core.List.{List, [], _∷_}
 use Prim.Native.Nat.{ℕ, zero, suc}
 use lib.Ieee.{Float, binary32, ofBits, toBits}
-use Rattle.numbers.specs.Root.{sqrtOf}
+use Rattle.floats.specs.Root.{sqrtOf}
 use Rattle.cell.specs.declared.Vec3.{Vec3}
 use Rattle.cell.specs.declared.Cell.{Cell}
 use Rattle.cell.specs.Cell.{extentOf, valid, wrap, minImage}
 use Rattle.cell.specs.Refusals.{firstRefusal}
 use Rattle.selection.specs.Selection.{keptCopies}
-use Rattle.selection.specs.Sound.{copiesIn}
+use Rattle.pick_lists.specs.Sound.{copiesIn}
 use Rattle.dispersion.specs.Dispersion.{dispersionOf}
 use Rattle.leaf.specs.Leaf.{referenceVolume, partitionScore}
 use Rattle.mixing.specs.declared.FrameAnswer.the-variants.{Blank}

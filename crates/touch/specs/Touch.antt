@@ -5,7 +5,7 @@ use mathlib.Core.List.{List, [], _∷_}
 use Prim.Native.Nat.{ℕ}
 use lib.Ieee.{Float, binary32, mul, le, ofBits}
 use Rattle.cell.specs.Cell.{extentOf, distance2, pointAt}
-use Rattle.selection.specs.Sound.{pickList}
+use Rattle.pick_lists.specs.Sound.{pickList}
 use Rattle.cell.specs.declared.Vec3.{Vec3}
 use Rattle.cell.specs.declared.Cell.{Cell}
 

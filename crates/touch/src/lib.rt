@@ -4,7 +4,7 @@ ghost use mathlib.Core.Path.{_≡_};
 ghost use mathlib.Core.Bool.{true};
 ghost use Prim.Native.Nat.{ℕ, _+_, _*_, _<_};
 ghost use lib.ListN.{length, getD};
-ghost use Rattle.selection.specs.Sound.{soundLists, copiesIn};
+ghost use Rattle.pick_lists.specs.Sound.{soundLists, copiesIn};
 ghost use Rattle.touch.specs.Touch.{near as nearOf, anyPair, copiesTouch};
 use cell::Cell;
 use cell::Vec3;
@@ -63,7 +63,7 @@ pub fn copies_touch(
     requires { ⌜ (i < copiesIn (now starts)) × (j < copiesIn (now starts)) ⌝ }
     ensures { λ r. ⌜ r ≡ copiesTouch cell (now (xs .entry)) (now (starts .entry)) (now (picks .entry)) i j ⌝ }
 {
-    let a = selection::sound::copy_picks(starts, picks, i);
-    let b = selection::sound::copy_picks(starts, picks, j);
+    let a = pick_lists::copy_picks(starts, picks, i);
+    let b = pick_lists::copy_picks(starts, picks, j);
     lists_touch(cell::extent(cell), xs, a, b)
 }

@@ -1,7 +1,3 @@
--- Centers wrapped in place, point by point.
-pub mod Wrapping
--- The finite waters, counted and written, point by point.
-pub mod WaterList
 -- What each `return` of the tests answers, and what input that passes them has.
 pub mod TreeRefusals
 -- What a call answers and leaves: order lists of which a part was lent, the three outcomes, and Tree's answer.

@@ -13,19 +13,18 @@ use lib.Ieee.{Float, binary32, ofBits}
 use Rattle.cell.specs.declared.Cell.{Cell}
 use Rattle.cell.specs.Tables.{over, unlessRefused}
 use Rattle.cell.proofs.Tables.{at-refusal, number-answered}
-use Rattle.selection.specs.Sound.{copiesIn}
-use Rattle.dispersion.specs.Centers.{centersOf}
-use Rattle.octree.proofs.Answering.{built-told}
+use Rattle.pick_lists.specs.Sound.{copiesIn}
+use Rattle.tree_tables.proofs.Answering.{built-told}
 use Rattle.octree.specs.declared.Built.{Built}
 use Rattle.octree.specs.declared.Built.the-variants.{Nodes, Full}
 use Rattle.nodes.specs.Nodes.{firstNumbers, deepest, recordsOf, boxesOf}
 use Rattle.octree.specs.Tree.{Subtrees, pointNumbers, builtAnswer, builtNumber, treeRefusal, centerOrderLeft, waterOrderLeft, recordsLeft, boxesLeft}
-use Rattle.tree.specs.Points.{treeCenters, treeWaters, finiteWaters}
+use Rattle.points.specs.Points.{treeCenters, treeWaters, finiteWaters}
 use Rattle.tree.specs.declared.TreeAnswer as TreeAnswer
 use Rattle.tree.specs.declared.TreeAnswer.{TreeAnswer}
 use Rattle.tree.specs.Tree.{frameTree, treeOver, treeOn, byOutcome, treeAnswer, treeNumber, centerOrderAfter, waterOrderAfter, recordsAfter, boxesAfter}
-use Rattle.tree.proofs.Wrapping.{wrap-length}
-use Rattle.tree.proofs.WaterList.{waters-length}
+use Rattle.points.proofs.Wrapping.{centers-size}
+use Rattle.points.proofs.WaterList.{waters-length}
 
 -- the tables that an answer of number r leaves: the order lists co and wo of n centers and m waters, and the node tables
 abbrev pub Leaves : ℕ → Subtrees → ℕ → ℕ → List ℕ → List ℕ → List ℕ → List ℕ → List ℕ → List ℕ → List Float → List Float → Type 0
@@ -122,10 +121,6 @@ module _ (t : Subtrees) where
 front : (L t : List Float) (k : ℕ) → length L ≡ k → take k (over L t) ≡ L
 unfolding over
 front L t k h = take-at L (drop (length L) t) k h
-
-pub centers-size : (c : Cell) (solutes : List Float) (starts picks : List ℕ) → length (treeCenters c solutes starts picks) ≡ copiesIn starts * 3
-unfolding treeCenters
-centers-size c solutes starts picks = wrap-length c (centersOf c solutes starts picks) (copiesIn starts) 0
 
 pub over-centers :
     (c : Cell) (solutes : List Float) (starts picks : List ℕ) (table wrapped : List Float) (m : ℕ) →

@@ -10,15 +10,15 @@ use lib.Dec.{eqb, ltb}
 use lib.ListN.{length}
 use lib.Ieee.{Float}
 use Rattle.cell.specs.declared.Cell.{Cell}
-use Rattle.cell.specs.Limits.{long, maxAtoms, lengths, counts, bounds, coordinates, validity, limitRefusals, frameRefusals}
+use Rattle.frame_limits.specs.Limits.{long, maxAtoms, lengths, counts, bounds, coordinates, validity, limitRefusals, frameRefusals}
 use Rattle.cell.specs.Refusals.{Refusal, firstRefusal}
 use Rattle.cell.proofs.FirstRefusal.{numbered, first-hit, first-skip, first-none, append-hit, append-skip, neither}
-use Rattle.cell.proofs.FrameRefusals.{frame-none}
-use Rattle.selection.specs.Sound.{copiesIn, soundLists, soundness}
-use Rattle.selection.specs.Input.{inputRefusals}
-use Rattle.selection.proofs.InputRefusals.{input-numbered, input-accepted}
+use Rattle.frame_limits.proofs.FrameRefusals.{frame-none}
+use Rattle.pick_lists.specs.Sound.{copiesIn, soundLists, soundness}
+use Rattle.pick_lists.specs.Input.{inputRefusals}
+use Rattle.pick_lists.proofs.InputRefusals.{input-numbered, input-accepted}
 use Rattle.octree.specs.Tree.{treeRefusal}
-use Rattle.tree.specs.Points.{finiteWaters}
+use Rattle.points.specs.Points.{finiteWaters}
 use Rattle.tree.specs.Tree.{frameTree, orderRefusal, testRefusals, roomRefusal, treeCallRefusal}
 
 -- ---- a number that no refusal of a list has

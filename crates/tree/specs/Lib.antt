@@ -1,3 +1,2 @@
--- Tree: the points that it is built over, and what it answers and leaves.
-pub mod Points
+-- Tree: what it answers and leaves.
 pub mod Tree

@@ -8,12 +8,12 @@ use lib.Ieee.{Float, binary32, ofBits}
 use Rattle.cell.specs.declared.Cell.{Cell}
 use Rattle.cell.specs.Refusals.{Refusal, refuse, firstRefusal}
 use Rattle.cell.specs.Tables.{over, unlessRefused}
-use Rattle.selection.specs.Sound.{copiesIn}
-use Rattle.selection.specs.Input.{inputRefusals}
-use Rattle.octants.specs.Bounds.{cellBox}
+use Rattle.pick_lists.specs.Sound.{copiesIn}
+use Rattle.pick_lists.specs.Input.{inputRefusals}
+use Rattle.bounds.specs.Bounds.{cellBox}
 use Rattle.nodes.specs.Nodes.{deepest, firstNumbers, recordsOf, boxesOf}
 use Rattle.octree.specs.Tree.{Subtrees, treeOf}
-use Rattle.tree.specs.Points.{treeCenters, treeWaters, finiteWaters}
+use Rattle.points.specs.Points.{treeCenters, treeWaters, finiteWaters}
 use Rattle.tree.specs.declared.TreeAnswer.{TreeAnswer}
 use Rattle.tree.specs.declared.TreeAnswer.the-variants.{Nodes, Refused}
 

@@ -5,13 +5,12 @@ ghost use mathlib.Core.Bool.{true};
 ghost use Prim.Native.Nat.{_*_, _≤_};
 ghost use lib.ListN.{length};
 ghost use Rattle.cell.specs.Refusals.{firstRefusal};
-ghost use Rattle.cell.specs.Tables.{over};
-ghost use Rattle.selection.specs.Sound.{soundLists, copiesIn};
+ghost use Rattle.pick_lists.specs.Sound.{soundLists, copiesIn};
 ghost use Rattle.octree.specs.Tree.{treeRoom, builtAnswer, builtNumber};
-ghost use Rattle.tree.specs.Points.{wrapFrom, treeCenters, treeWaters, finiteWaters};
+ghost use Rattle.points.specs.Points.{finiteWaters};
 ghost use Rattle.tree.specs.Tree.{treeOver, treeOn, frameTree, wholeRecords, testRefusals, treeCallRefusal, treeAnswer, treeNumber, centerOrderAfter, waterOrderAfter, recordsAfter, boxesAfter};
+use bounds::OctreeBounds;
 use cell::Cell;
-use octants::bounds::OctreeBounds;
 use octree::Built;
 
 // What Tree answers: the number of nodes and the greatest depth, or a refusal by its number.
@@ -19,76 +18,6 @@ pub enum TreeAnswer {
     Nodes(usize, usize),
     Refused(u32),
 }
-
-// ---- the points
-
-// Wraps the first n points of a list in place.
-fn wrap_all(cell: Cell, xs: &mut [f32], n: usize)
-    requires { ⌜ n * 3 ≤ length (now xs) ⌝ }
-    ensures { λ _. ⌜ now (xs .exit) ≡ over (wrapFrom cell (now (xs .entry)) n 0) (now (xs .entry)) ⌝ }
-{
-    let mut i = 0;
-    while i < n {
-        let p = cell::wrap(cell, cell::point(xs, i));
-        let at = i * 3;
-        xs[at] = p.x;
-        xs[at + 1] = p.y;
-        xs[at + 2] = p.z;
-        i += 1;
-    }
-}
-
-// Writes the tree's centers, those of the copies wrapped once more.
-pub fn put_centers(cell: Cell, solutes: &[f32], starts: &[u32], picks: &[u32], out: &mut [f32])
-    requires { ⌜ soundLists (now solutes) (now starts) (now picks) ≡ true ⌝ }
-    requires { ⌜ copiesIn (now starts) * 3 ≤ length (now out) ⌝ }
-    ensures { λ _. ⌜ now (out .exit) ≡ over (treeCenters cell (now (solutes .entry)) (now (starts .entry)) (now (picks .entry))) (now (out .entry)) ⌝ }
-{
-    dispersion::put_centers(cell, solutes, starts, picks, out);
-    wrap_all(cell, out, starts.len() - 1);
-}
-
-// Writes the finite waters, wrapped, and answers how many there are.
-pub fn put_waters(cell: Cell, waters: &[f32], out: &mut [f32]) -> usize
-    requires { ⌜ length (now waters) ≤ length (now out) ⌝ }
-    ensures count { λ r. ⌜ r ≡ finiteWaters (now (waters .entry)) ⌝ }
-    ensures after { λ r. ⌜ now (out .exit) ≡ over (treeWaters cell (now (waters .entry))) (now (out .entry)) ⌝ }
-{
-    let n = waters.len() / 3;
-    let mut m = 0;
-    let mut k = 0;
-    while k < n {
-        let p = cell::point(waters, k);
-        if cell::is_finite(p) {
-            let w = cell::wrap(cell, p);
-            let at = m * 3;
-            out[at] = w.x;
-            out[at + 1] = w.y;
-            out[at + 2] = w.z;
-            m += 1;
-        }
-        k += 1;
-    }
-    m
-}
-
-// How many waters are finite.
-pub fn count_waters(waters: &[f32]) -> usize
-    ensures { λ r. ⌜ r ≡ finiteWaters (now (waters .entry)) ⌝ }
-{
-    let n = waters.len() / 3;
-    let mut m = 0;
-    let mut k = 0;
-    while k < n {
-        if cell::is_finite(cell::point(waters, k)) {
-            m += 1;
-        }
-        k += 1;
-    }
-    m
-}
-
-// ---- Tree
 
 // The first of 1, 2, 3, 4, 15, 8 and 7 (for the order lists) that holds, or 0: what Tree and Report test before they write.
 pub fn refusal(
@@ -102,14 +31,14 @@ pub fn refusal(
 ) -> u32
     ensures { λ r. ⌜ r ≡ firstRefusal (testRefusals cell (now (solutes .entry)) (now (waters .entry)) (now (starts .entry)) (now (picks .entry)) (now («center_order» .entry)) (now («water_order» .entry))) ⌝ }
 {
-    let first = selection::sound::input_refusal(cell, solutes, waters, starts, picks);
+    let first = pick_lists::input_refusal(cell, solutes, waters, starts, picks);
     if first != 0 {
         return first;
     }
     if center_order.len() < starts.len() - 1 {
         return 7;
     }
-    if water_order.len() < count_waters(waters) {
+    if water_order.len() < points::count_waters(waters) {
         return 7;
     }
     0
@@ -136,7 +65,7 @@ fn tree_over(
     ensures table { λ r. ⌜ now (records .exit) ≡ recordsAfter (builtNumber r) (treeOver cell (now (centers .entry)) n (now (waters .entry)) m) (now (records .entry)) ⌝ }
     ensures corners { λ r. ⌜ now (boxes .exit) ≡ boxesAfter (builtNumber r) (treeOver cell (now (centers .entry)) n (now (waters .entry)) m) (now (boxes .entry)) ⌝ }
 {
-    octree::build_tree(
+    tree_tables::build_tree(
         OctreeBounds::from_cell(cell),
         &centers[..n * 3],
         &waters[..m * 3],
@@ -172,8 +101,8 @@ pub fn tree_of(
     ensures table { λ r. ⌜ now (records .exit) ≡ recordsAfter (builtNumber r) (treeOn cell (now (solutes .entry)) (now (starts .entry)) (now (picks .entry)) (now (wrapped .entry)) m) (now (records .entry)) ⌝ }
     ensures corners { λ r. ⌜ now (boxes .exit) ≡ boxesAfter (builtNumber r) (treeOn cell (now (solutes .entry)) (now (starts .entry)) (now (picks .entry)) (now (wrapped .entry)) m) (now (boxes .entry)) ⌝ }
 {
-    let mut centers = [0f32; 12288];
-    put_centers(cell, solutes, starts, picks, &mut centers);
+    let mut centers = centers::center_room();
+    points::put_centers(cell, solutes, starts, picks, &mut centers);
     tree_over(
         cell,
         &centers,
@@ -218,8 +147,8 @@ pub fn tree(
     if first != 0 {
         return TreeAnswer::Refused(first);
     }
-    let mut wrapped = [0f32; 196608];
-    let m = put_waters(cell, waters, &mut wrapped);
+    let mut wrapped = points::water_room();
+    let m = points::put_waters(cell, waters, &mut wrapped);
     let limit = records.len() / 8;
     match tree_of(
         cell,

@@ -7,6 +7,7 @@ use cell::Vec3;
 use libc::STDOUT_FILENO;
 use report::Reported;
 use tree::TreeAnswer;
+ghost use Prim.Native.Nat.{_≤_};
 
 fn text(s: &[u8]) {
     io::write_all(STDOUT_FILENO, s);
@@ -56,198 +57,102 @@ fn show_report(a: Reported) {
     }
 }
 
-fn run_tree(
-    cell: Cell,
-    solutes: &[f32],
-    starts: &[u32],
-    picks: &[u32],
-    waters: &[f32],
-    records: &mut [u32],
-    boxes: &mut [f32],
-) {
+// Tree of n copies and m waters, all in one place, in the cell 0..h, with room for r records.
+fn run_tree(h: f32, n: usize, m: usize, r: usize)
+    requires { ⌜ (n ≤ 2) × ((m ≤ 1) × (r ≤ 15)) ⌝ }
+{
+    let place = [3.0f32; 6];
+    let water = [3.0f32; 3];
+    let starts = [0u32, 1, 2];
+    let picks = [0u32, 1];
     let mut center_order = [0u32; 2];
     let mut water_order = [0u32; 2];
+    let mut records = [1u32; 120];
+    let mut boxes = [1f32; 90];
     show_tree(tree::tree(
-        cell,
-        solutes,
-        waters,
-        starts,
-        picks,
+        cube(h),
+        &place[..n * 3],
+        &water[..m * 3],
+        &starts[..n + 1],
+        &picks[..n],
         &mut center_order,
         &mut water_order,
-        records,
-        boxes,
+        &mut records[..r * 8],
+        &mut boxes,
     ));
 }
 
-fn run_report(
-    cell: Cell,
-    solutes: &[f32],
-    starts: &[u32],
-    picks: &[u32],
-    waters: &[f32],
-    records: &mut [u32],
-    boxes: &mut [f32],
-    leaves: &mut [u32],
-) {
+fn run_report(h: f32, n: usize, m: usize, r: usize)
+    requires { ⌜ (n ≤ 2) × ((m ≤ 1) × (r ≤ 15)) ⌝ }
+{
+    let place = [3.0f32; 6];
+    let water = [3.0f32; 3];
+    let starts = [0u32, 1, 2];
+    let picks = [0u32, 1];
     let mut center_order = [0u32; 2];
     let mut water_order = [0u32; 2];
+    let mut records = [1u32; 120];
+    let mut boxes = [1f32; 90];
+    let mut leaves = [1u32; 120];
     show_report(report::report(
-        cell,
-        solutes,
-        waters,
-        starts,
-        picks,
+        cube(h),
+        &place[..n * 3],
+        &water[..m * 3],
+        &starts[..n + 1],
+        &picks[..n],
         &mut center_order,
         &mut water_order,
-        records,
-        boxes,
-        leaves,
+        &mut records[..r * 8],
+        &mut boxes,
+        &mut leaves,
     ));
 }
 
-// Tree and Report of a frame, in lent node tables.
-fn run(
-    name: &[u8],
-    h: f32,
-    solutes: &[f32],
-    starts: &[u32],
-    picks: &[u32],
-    waters: &[f32],
-    records: &mut [u32],
-    boxes: &mut [f32],
-    leaves: &mut [u32],
-    expected: &[u8],
-) {
+// Tree and Report of such a frame.
+fn run(name: &[u8], h: f32, n: usize, m: usize, r: usize, expected: &[u8])
+    requires { ⌜ (n ≤ 2) × ((m ≤ 1) × (r ≤ 15)) ⌝ }
+{
     text(name);
     text(b": ");
-    run_tree(cube(h), solutes, starts, picks, waters, records, boxes);
+    run_tree(h, n, m, r);
     text(b"and ");
-    run_report(
-        cube(h),
-        solutes,
-        starts,
-        picks,
-        waters,
-        records,
-        boxes,
-        leaves,
-    );
+    run_report(h, n, m, r);
     text(b"expected ");
     text(expected);
     text(b"\n");
 }
 
-fn two_copies(records: &mut [u32], boxes: &mut [f32], leaves: &mut [u32]) {
-    let place = [3.0f32; 6];
-    let starts = [0u32, 1, 2];
-    let picks = [0u32, 1];
-    let water = [3.0f32; 3];
+fn fewer_copies() {
+    run(b"one copy, no waters", 16.0, 1, 0, 15, b"1 0 and 1 0 1 1");
+    run(b"no centers, one water", 16.0, 0, 1, 15, b"1 0 and 1 0 0 0");
+    run(b"no points", 16.0, 0, 0, 15, b"0 0 and 0 0 0 0");
+}
+
+fn main() {
     run(
         b"two copies in one place",
         16.0,
-        &place,
-        &starts,
-        &picks,
-        &water,
-        records,
-        boxes,
-        leaves,
+        2,
+        1,
+        15,
         b"6 5 and 6 5 1 0",
     );
     run(
         b"two copies, depth 14",
         16384.0,
-        &place,
-        &starts,
-        &picks,
-        &water,
-        records,
-        boxes,
-        leaves,
+        2,
+        1,
+        15,
         b"15 14 and 15 14 1 0",
     );
-}
-
-fn one_copy(records: &mut [u32], boxes: &mut [f32], leaves: &mut [u32]) {
-    let place = [3.0f32; 3];
-    let starts = [0u32, 1];
-    let picks = [0u32];
-    let no_water = [0f32; 0];
-    run(
-        b"one copy, no waters",
-        16.0,
-        &place,
-        &starts,
-        &picks,
-        &no_water,
-        records,
-        boxes,
-        leaves,
-        b"1 0 and 1 0 1 1",
-    );
-}
-
-fn no_copy(records: &mut [u32], boxes: &mut [f32], leaves: &mut [u32]) {
-    let none = [0f32; 0];
-    let starts = [0u32];
-    let picks = [0u32; 0];
-    let water = [3.0f32; 3];
-    run(
-        b"no centers, one water",
-        16.0,
-        &none,
-        &starts,
-        &picks,
-        &water,
-        records,
-        boxes,
-        leaves,
-        b"1 0 and 1 0 0 0",
-    );
-    run(
-        b"no points",
-        16.0,
-        &none,
-        &starts,
-        &picks,
-        &none,
-        records,
-        boxes,
-        leaves,
-        b"0 0 and 0 0 0 0",
-    );
-}
-
-// One record less than the nodes: 13.
-fn no_room() {
-    let mut records = [1u32; 40];
-    let mut boxes = [1f32; 36];
-    let mut leaves = [1u32; 48];
-    let place = [3.0f32; 6];
-    let starts = [0u32, 1, 2];
-    let picks = [0u32, 1];
-    let water = [3.0f32; 3];
+    fewer_copies();
+    // one record less than the nodes: 13
     run(
         b"five records for six nodes",
         16.0,
-        &place,
-        &starts,
-        &picks,
-        &water,
-        &mut records,
-        &mut boxes,
-        &mut leaves,
+        2,
+        1,
+        5,
         b"refused 13 and refused 13",
     );
-}
-
-fn main() {
-    let mut records = [0u32; 120];
-    let mut boxes = [0f32; 90];
-    let mut leaves = [0u32; 120];
-    two_copies(&mut records, &mut boxes, &mut leaves);
-    one_copy(&mut records, &mut boxes, &mut leaves);
-    no_copy(&mut records, &mut boxes, &mut leaves);
-    no_room();
 }

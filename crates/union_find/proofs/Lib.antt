@@ -11,7 +11,5 @@ pub mod Shortening
 pub mod Roots
 -- what a join leaves: the length, soundness and each copy's root
 pub mod Joins
--- a walk that stamps its copies ends at a root, at a copy known to reach one, or in a cycle
-pub mod Climbs
 -- the sizes of the sets, counted copy by copy
 pub mod Sizes

@@ -1,4 +1,3 @@
 -- Sets of copies by parents: roots, joins, soundness, and the largest set.
 pub mod Range
 pub mod Parents
-pub mod Stamps

@@ -1,15 +1,11 @@
 // Union-find over a lent list of parents (document 01, 'Clusters'; the Rust's `find_root` and `union_roots`): joins without rank,
-// chains shortened as the Rust does. The test of a lent list and the largest set take a fixed multiple of n steps on any
-// list, cycles and chains of depth n included: local arrays of 4,096 words remember what was seen.
+// chains shortened as the Rust does. The largest set takes a fixed multiple of n steps on any sound list, chains of depth n included.
 ghost use mathlib.Core.Path.{_≡_};
 ghost use mathlib.Core.Bool.{true};
 ghost use mathlib.Core.List.{_++_};
 ghost use Prim.Native.Nat.{ℕ, _+_, _<_, _≤_};
 ghost use lib.ListN.{length, getD, drop};
-ghost use lib.Dec.{ltb};
-ghost use Rattle.union_find.specs.Range.{allBelow};
-ghost use Rattle.union_find.specs.Parents.{walk, rootOf, compressed, joined, rootWithin, reachesRoot, soundParents, largestSet};
-ghost use Rattle.union_find.specs.Stamps.{Stamped};
+ghost use Rattle.union_find.specs.Parents.{rootOf, compressed, joined, soundParents, largestSet};
 
 // The most copies that a list can have.
 pub const MAX_COPIES: usize = 4096;
@@ -43,121 +39,6 @@ pub fn union_roots(parent: &mut [u32], a: u32, b: u32)
     if a_root != b_root {
         parent[b_root as usize] = a_root;
     }
-}
-
-// Whether every word is below n. The loop has no branch on a word, so that a processor tests several at once.
-pub fn all_below(words: &[u32], n: u32) -> bool
-    ensures { λ r. ⌜ r ≡ allBelow (length (now (words .entry))) (λ i. ltb (getD (now (words .entry)) i 0) n) ⌝ }
-{
-    let mut all = true;
-    let mut i = 0;
-    while i < words.len() {
-        all = all & (words[i] < n);
-        i += 1;
-    }
-    all
-}
-
-// The copy two steps above i, for parents that are all below n.
-fn two_up(parent: &[u32], i: u32) -> u32
-    requires { ⌜ allBelow (length (now parent)) (λ i. ltb (getD (now parent) i 0) (length (now parent))) ≡ true ⌝ }
-    requires { ⌜ i < length (now parent) ⌝ }
-    ensures { λ r. ⌜ (r ≡ walk (now (parent .entry)) 2 i) × (r < length (now (parent .entry))) ⌝ }
-{
-    let k = parent[i as usize];
-    parent[k as usize]
-}
-
-// The same, four steps above i.
-fn four_up(parent: &[u32], i: u32) -> u32
-    requires { ⌜ allBelow (length (now parent)) (λ i. ltb (getD (now parent) i 0) (length (now parent))) ≡ true ⌝ }
-    requires { ⌜ i < length (now parent) ⌝ }
-    ensures { λ r. ⌜ (r ≡ walk (now (parent .entry)) 4 i) × (r < length (now (parent .entry))) ⌝ }
-{
-    two_up(parent, two_up(parent, i))
-}
-
-// Whether i is at most eight steps below its root. Four are enough for most copies, so that a processor foresees the branch.
-fn near_root(parent: &[u32], i: u32) -> bool
-    requires { ⌜ allBelow (length (now parent)) (λ i. ltb (getD (now parent) i 0) (length (now parent))) ≡ true ⌝ }
-    requires { ⌜ i < length (now parent) ⌝ }
-    ensures { λ r. ⌜ r ≡ rootWithin (now (parent .entry)) 8 i ⌝ }
-{
-    let k = four_up(parent, i);
-    if parent[k as usize] == k {
-        return true;
-    }
-    let m = four_up(parent, k);
-    parent[m as usize] == m
-}
-
-// Whether each copy is at most eight steps below its root, for parents that are all below n: a scan leaves most lists so. It writes nothing, and no
-// step turns on what an earlier copy led to, so it is the quicker test where it holds.
-fn shallow(parent: &[u32]) -> bool
-    requires { ⌜ allBelow (length (now parent)) (λ i. ltb (getD (now parent) i 0) (length (now parent))) ≡ true ⌝ }
-    requires { ⌜ length (now parent) ≤ 4096 ⌝ }
-    ensures { λ r. ⌜ r ≡ allBelow (length (now (parent .entry))) (rootWithin (now (parent .entry)) 8) ⌝ }
-{
-    let mut i = 0;
-    while i < parent.len() {
-        if !near_root(parent, i as u32) {
-            return false;
-        }
-        i += 1;
-    }
-    true
-}
-
-// Walks up from i, leaving i + 1 in `seen` at each copy that no walk saw before. An earlier walk ended at a root, so a copy that
-// it saw reaches one; a copy that this walk saw closes a cycle.
-fn ends(parent: &[u32], seen: &mut [u32], i: u32) -> bool
-    requires { ⌜ allBelow (length (now parent)) (λ i. ltb (getD (now parent) i 0) (length (now parent))) ≡ true ⌝ }
-    requires { ⌜ (i < length (now parent)) × (length (now parent) ≤ length (now seen)) × (length (now parent) ≤ 4096) ⌝ }
-    requires { ⌜ Stamped (now parent) (now seen) i ⌝ }
-    ensures { λ r. ⌜ r ≡ reachesRoot (now (parent .entry)) i ⌝ }
-    ensures { λ r. ⌜ (r ≡ true → Stamped (now (parent .entry)) (now (seen .exit)) (i + 1)) ⌝ }
-{
-    let mut k = i;
-    while seen[k as usize] == 0 {
-        seen[k as usize] = i + 1;
-        if parent[k as usize] == k {
-            return true;
-        }
-        k = parent[k as usize];
-    }
-    seen[k as usize] != i + 1
-}
-
-// Whether every chain ends at a root, for parents that are all below n.
-fn all_end(parent: &[u32], seen: &mut [u32]) -> bool
-    requires { ⌜ allBelow (length (now parent)) (λ i. ltb (getD (now parent) i 0) (length (now parent))) ≡ true ⌝ }
-    requires { ⌜ (length (now parent) ≤ length (now seen)) × (length (now parent) ≤ 4096) ⌝ }
-    requires { ⌜ Stamped (now parent) (now seen) 0 ⌝ }
-    ensures { λ r. ⌜ r ≡ allBelow (length (now (parent .entry))) (reachesRoot (now (parent .entry))) ⌝ }
-{
-    let mut i = 0;
-    while i < parent.len() {
-        if !ends(parent, seen, i as u32) {
-            return false;
-        }
-        i += 1;
-    }
-    true
-}
-
-// Whether a list is sound: each parent below n, each copy reaches its own root in n steps.
-pub fn is_sound(parent: &[u32]) -> bool
-    requires { ⌜ length (now parent) ≤ 4096 ⌝ }
-    ensures { λ r. ⌜ r ≡ soundParents (now (parent .entry)) ⌝ }
-{
-    if !all_below(parent, parent.len() as u32) {
-        return false;
-    }
-    if shallow(parent) {
-        return true;
-    }
-    let mut seen = [0u32; MAX_COPIES];
-    all_end(parent, &mut seen)
 }
 
 // Copies the parents to the front of p; the rest of p keeps its values.

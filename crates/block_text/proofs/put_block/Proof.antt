@@ -3,9 +3,6 @@
 use mathlib.Core.Path.{sym}
 use native.Mathlib.Omega.{arith}
 use lib.Seq.{length-take-le}
-use lib.ListN.{replicate, length-replicate}
-use lib.Ieee.{Float, binary32, ofBits}
-use Prim.Native.Nat.{ℕ}
 use Rattle.block_text.proofs.Fits.{Read, refused-14, read-frame, text-read, counts-fit}
 use borrow.Author.Needs.{needs}
 use Rattle.block_text.proofs.put_block.Statement.{statement}
@@ -13,11 +10,11 @@ use Rattle.block_text.proofs.put_block.Tie as tie
 
 -- what was read is the block's frame
 got : (c : tie.After-per) →
-    Read (c .before .before .before .before .before .before .before .before .before .before .before .args .bytes .now) (replicate 14988 0) (replicate 14988 (ofBits binary32 0)) (replicate 14988 (ofBits binary32 0))
+    Read (c .before .before .before .before .before .before .before .before .before .before .before .before .before .before .args .bytes .now) (c .before .before .before .before .before .before .before .before .before .before .before .index-room .result) (c .before .before .before .before .before .before .before .before .before .before .atom-room .result) (c .before .before .before .before .before .before .before .before .before .atom-room2 .result)
     (c .per .given .0 .0) (c .per .given .0 .1 .0) (c .per .given .0 .1 .1 .0) (c .per .given .0 .1 .1 .1 .0) (c .per .given .0 .1 .1 .1 .1 .0)
     (c .before .before .before .before .before .read-block .last .1 .0) (c .before .before .before .before .before .read-block .last .1 .1 .0) (c .before .before .before .before .before .read-block .last .1 .1 .1 .0)
 got c =
-    read-frame _ _ _ _ (length-replicate {A = ℕ} 14988 0) (length-replicate {A = Float} 14988 (ofBits binary32 0)) (length-replicate {A = Float} 14988 (ofBits binary32 0)) _ _ _ _ _ _ _ _
+    read-frame _ (c .before .before .before .before .before .before .before .before .before .before .before .index-room .result) (c .before .before .before .before .before .before .before .before .before .before .atom-room .result) (c .before .before .before .before .before .before .before .before .before .atom-room2 .result) (search needs) (search needs) (search needs) _ _ _ _ _ _ _ _
     (rw (c .per .given .1) at (c .before .before .before .before .before .read-block .ensures))
 
 slice-aggregate-read-block : tie.Need-slice-aggregate-read-block
@@ -73,7 +70,7 @@ same-length c = search needs
 
 returns : tie.Need-returns
 returns c =
-    rw (← refused-14 _ _ _ _ (length-replicate {A = ℕ} 14988 0) (length-replicate {A = Float} 14988 (ofBits binary32 0)) (length-replicate {A = Float} 14988 (ofBits binary32 0)) _ _ _ _ (rw (c .before .before .before .before .before .number .given .1) at (c .before .before .before .before .before .before .before .before .before .before .read-block .ensures))) (c .before .before .put-refused .ensures)
+    rw (← refused-14 _ (c .before .before .before .before .before .before .before .before .before .before .before .before .before .before .before .before .index-room .result) (c .before .before .before .before .before .before .before .before .before .before .before .before .before .before .before .atom-room .result) (c .before .before .before .before .before .before .before .before .before .before .before .before .before .before .atom-room2 .result) (search needs) (search needs) (search needs) _ _ _ _ (rw (c .before .before .before .before .before .number .given .1) at (c .before .before .before .before .before .before .before .before .before .before .read-block .ensures))) (c .before .before .put-refused .ensures)
 
 same-length-2 : tie.Need-same-length-2
 same-length-2 c = search needs
@@ -85,6 +82,9 @@ pub put-block-spec : {M : Type 1} → statement M
 put-block-spec =
     tie.close
     (tie.spec
+    (λ c κs. search needs)
+    (λ c κs. search needs)
+    (λ c κs. search needs)
     slice-aggregate-read-block
     slice-aggregate-read-block-2
     slice-aggregate-read-block-3

@@ -6,7 +6,7 @@ use lib.ListN.{length}
 use native.Mathlib.Omega.{arith}
 use borrow.Author.Needs.{needs}
 use borrow.Author.Tests.{not-false, not-true}
-use Rattle.selection.proofs.SoundLists.{sound-lists}
+use Rattle.pick_lists.proofs.SoundLists.{sound-lists}
 use Rattle.boxes.specs.Boxes.{apartFrom, firstPast}
 use Rattle.boxes.proofs.Past.{past-on, past-here, past-none}
 use Rattle.boxes.proofs.next_close.Statement.{statement}

@@ -1,6 +1,6 @@
 -- `boxes::row_apart` meets its contract: the picks of copy j. Assumes nothing.
-use Rattle.selection.proofs.SoundLists.{sound-lists}
-use Rattle.selection.proofs.CopyPicks.{copy-part, copy-some, copy-atoms}
+use Rattle.pick_lists.proofs.SoundLists.{sound-lists}
+use Rattle.pick_lists.proofs.CopyPicks.{copy-part, copy-some, copy-atoms}
 use Rattle.boxes.proofs.row_apart.Statement.{statement}
 use Rattle.boxes.proofs.row_apart.Tie as tie
 

@@ -1,7 +1,7 @@
 -- `boxes::row_touch` meets its contract: the picks of both copies. Assumes nothing.
-use Rattle.selection.specs.Selection.{finiteAtom}
-use Rattle.selection.proofs.SoundLists.{sound-lists}
-use Rattle.selection.proofs.CopyPicks.{copy-part, copy-some, copy-few, copy-atoms, copy-finite}
+use Rattle.pick_lists.specs.Sound.{finiteAtom}
+use Rattle.pick_lists.proofs.SoundLists.{sound-lists}
+use Rattle.pick_lists.proofs.CopyPicks.{copy-part, copy-some, copy-few, copy-atoms, copy-finite}
 use Rattle.touch.specs.Touch.{copiesTouch}
 use Rattle.boxes.proofs.row_touch.Statement.{statement}
 use Rattle.boxes.proofs.row_touch.Tie as tie

@@ -6,8 +6,8 @@ use mathlib.Core.Bool.{true, false}
 use mathlib.Core.Logic.{⊎-elim}
 use Prim.Native.Nat.{ℕ, _+_, _-_, _≤_, _<_}
 use native.Mathlib.Omega.{arith}
-use Rattle.selection.specs.Sound.{copiesIn}
-use Rattle.selection.proofs.CopyPicks.{copy-part, copy-some, copy-atoms}
+use Rattle.pick_lists.specs.Sound.{copiesIn}
+use Rattle.pick_lists.proofs.CopyPicks.{copy-part, copy-some, copy-atoms}
 use Rattle.touch.specs.Touch.{copiesTouch}
 use Rattle.boxes.specs.Boxes.{spanOf, apartFrom}
 use Rattle.boxes.proofs.Between.{apart-copies}

@@ -1,7 +1,8 @@
 -- `dispersion::dispersion` meets its contract: the input's refusals, then the score. Assumes nothing.
 use mathlib.Core.List.{[]}
 use borrow.Author.Needs.{needs}
-use Rattle.dispersion.proofs.Answers.{sound-input, dispersion-refused, dispersion-answered}
+use Rattle.centers.proofs.Answers.{sound-input}
+use Rattle.dispersion.proofs.Answers.{dispersion-refused, dispersion-answered}
 use Rattle.dispersion.proofs.dispersion.Statement.{statement}
 use Rattle.dispersion.proofs.dispersion.Tie as tie
 

@@ -30,7 +30,7 @@ write-all-requires c κs = search needs
 
 returns : tie.Need-returns
 returns c =
-    let r = c .before .before .before .before .before .before .read-full in
+    let r = c .before .before .before .before .before .before .before .read-full in
     let buffer = r .last .1 .0 in
     let held = take (r .result) buffer in
     record { input = held; all = c .before .before .put-input .ensures .1 held (sym (take-all (length buffer) held (omega (arith, r .ensures)))) .0 }
@@ -39,8 +39,10 @@ pub print-frame-spec : {M : Type 1} → statement M
 print-frame-spec =
     tie.close
     (tie.spec
+    (λ c κs. search needs)
     slice-aggregate-read-full
     read-full-requires
+    (λ c κs. search needs)
     slice-aggregate-put-input
     put-input-requires
     array-share-prefix-out

@@ -1,6 +1,6 @@
 -- `leaf::within` meets its contract: one test for the definition's two (`between`). Assumes nothing.
 use borrow.Author.Needs.{needs}
-use Rattle.numbers.proofs.Magnitudes.{between}
+use Rattle.floats.proofs.Magnitudes.{between}
 use Rattle.leaf.specs.Leaf.{larger, withinHalf}
 use Rattle.leaf.proofs.within.Statement.{statement}
 use Rattle.leaf.proofs.within.Tie as tie

@@ -7,7 +7,7 @@ use Prim.Native.Nat.{ℕ, _+_, _-_, _*_, _≤_}
 use native.Mathlib.Omega.{arith}
 use lib.ListN.{length}
 use borrow.Author.Tests.{lt-ltb, le-ltb, leb-true, leb-false, not-true, not-false}
-use Rattle.listing.specs.Text.{places}
+use Rattle.text.specs.Text.{places}
 use Rattle.listing.specs.Listing.{leafLines, listingText, leavesMissing}
 use Rattle.listing.proofs.Lengths.{length-listing}
 use Rattle.listing.proofs.Answers.{cramped, written}

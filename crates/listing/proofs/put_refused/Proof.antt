@@ -6,7 +6,7 @@ use Prim.Native.Nat.{ℕ, _≤_}
 use native.Mathlib.Omega.{arith}
 use lib.ListN.{length}
 use borrow.Author.Tests.{lt-ltb, le-ltb}
-use Rattle.listing.specs.Text.{ascii, decimal}
+use Rattle.text.specs.Text.{ascii, decimal}
 use Rattle.listing.specs.Listing.{refusedText}
 use Rattle.listing.proofs.Lengths.{length-refused}
 use Rattle.listing.proofs.Words.{Words, words-first, words-next, words-last, last-fits}

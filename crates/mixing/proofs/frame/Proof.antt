@@ -10,14 +10,15 @@ use borrow.Author.Needs.{needs}
 use Rattle.cell.specs.Refusals.{firstRefusal}
 use Rattle.cell.specs.Tables.{over}
 use Rattle.cluster_table.specs.Fractions.{tableFractions}
-use Rattle.clusters.specs.Scan.{scanned}
+use Rattle.scan.specs.Scan.{scanned}
 use Rattle.dispersion.specs.Dispersion.{dispersionOf}
 use Rattle.octree.specs.Tree.{Subtrees, treeRefusal}
 use Rattle.tree.specs.Tree.{frameTree}
 use Rattle.report.specs.Report.{reportRoom, reportAnswer}
 use Rattle.report.proofs.ReportOutcomes.{report-told}
 use Rattle.mixing.specs.Inner.{withReport}
-use Rattle.mixing.specs.Frame.{Frame, Tables, given, lent, kept, startList, pickNumbers, treeIn, isBlank, sized, limited, blankHolds}
+use Rattle.frame_tests.specs.Tests.{isBlank}
+use Rattle.mixing.specs.Frame.{Frame, Tables, given, lent, kept, startList, pickNumbers, treeIn, sized, limited, blankHolds}
 use Rattle.mixing.proofs.Outcomes.{Passed, roomNumber, outcome-limit, outcome-blank, outcome-size, answer-worked}
 use Rattle.mixing.proofs.Cores.{cores-answer}
 use Rattle.mixing.proofs.Tested.{solutes-few, indices-few, room, lists-fit, fine, cores-fit, lists-sound, table-sound, coresLeave, worked-tables, starts-lent, picks-lent, starts-taken, picks-taken}

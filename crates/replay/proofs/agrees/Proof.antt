@@ -10,6 +10,7 @@ agrees-spec =
     tie.close
     (tie.spec
     (λ c κs. search needs)
+    (λ c κs. search needs)
     (λ c. c .put-text .ensures .0 .1)
     (λ c. sym (length-take-le _ _ (c .before .put-text .ensures .0 .1)))
     (λ c κs. search needs)

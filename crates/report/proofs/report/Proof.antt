@@ -2,9 +2,9 @@
 use mathlib.Core.Path.{sym, ap, _∙_}
 use Prim.Native.Nat.{ℕ}
 use borrow.Author.Needs.{needs}
-use Rattle.selection.specs.Sound.{copiesIn}
+use Rattle.pick_lists.specs.Sound.{copiesIn}
 use Rattle.octree.specs.Tree.{Subtrees}
-use Rattle.tree.specs.Points.{finiteWaters}
+use Rattle.points.specs.Points.{finiteWaters}
 use Rattle.tree.specs.Tree.{frameTree}
 use Rattle.tree.proofs.TreeRefusals.{tested, call-tested, call-room}
 use Rattle.tree.proofs.Outcomes.{unchanged}

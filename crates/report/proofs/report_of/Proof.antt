@@ -8,17 +8,18 @@ use borrow.Author.Needs.{needs}
 use lib.ListN.{length}
 use lib.Ieee.{Float}
 use Rattle.cell.specs.Tables.{over}
-use Rattle.selection.specs.Sound.{copiesIn}
-use Rattle.selection.proofs.SoundLists.{sound-lists}
+use Rattle.pick_lists.specs.Sound.{copiesIn}
+use Rattle.pick_lists.proofs.SoundLists.{sound-lists}
 use Rattle.octree.specs.declared.Built.the-variants.{Nodes, Full}
 use Rattle.nodes.specs.Nodes.{deepest}
 use Rattle.octree.specs.Tree.{Subtrees, treeRefusal}
-use Rattle.octree.proofs.Answering.{built-told}
-use Rattle.tree.specs.Points.{finiteWaters}
+use Rattle.tree_tables.proofs.Answering.{built-told}
+use Rattle.points.specs.Points.{finiteWaters}
 use Rattle.tree.specs.Tree.{frameTree, treeOn}
-use Rattle.tree.proofs.WaterList.{waters-length, waters-few}
+use Rattle.points.proofs.WaterList.{waters-length, waters-few}
 use Rattle.tree.proofs.Outcomes.{Leaves, Answers, answers-same, over-waters}
-use Rattle.report.specs.Report.{leavesFrom, reportedLeaves, dryLeaves, reportRoom}
+use Rattle.leaf_table.specs.LeafTable.{leavesFrom, reportedLeaves, dryLeaves}
+use Rattle.report.specs.Report.{reportRoom}
 use Rattle.report.proofs.ReportOutcomes.{table-over, room-fits, nodes-read, nodes-small, words-small, leaves-cleared, leaves-filled, answer-leaves, answer-refused}
 use Rattle.report.proofs.report_of.Statement.{statement}
 use Rattle.report.proofs.report_of.Tie as tie
@@ -32,12 +33,12 @@ room st = reportRoom (st .args .records .now) (st .args .boxes .now) (st .args .
 
 -- what the builder answered, over the frame's tree
 answered :
-    (c : tie.After-tree-of) → let st = c .before .before .before .before .before .before .before .before .before .before .before .before .before .before .before .before .before .before in
+    (c : tie.After-tree-of) → let st = c .before .before .before .before .before .before .before .before .before .before .before .before .before .before .before .before .before .before .before in
     Answers (c .tree-of .result) (room st) (inFrame st) (copiesIn (st .args .starts .now)) (finiteWaters (st .args .waters .now))
     (st .args .center-order .now) (c .tree-of .last .1 .1 .1 .1 .1 .1 .0) (st .args .water-order .now) (c .tree-of .last .1 .1 .1 .1 .1 .1 .1 .0)
     (st .args .records .now) (c .tree-of .last .1 .1 .1 .1 .1 .1 .1 .1 .0) (st .args .boxes .now) (c .tree-of .last .1 .1 .1 .1 .1 .1 .1 .1 .1 .0)
 answered c =
-    let st = c .before .before .before .before .before .before .before .before .before .before .before .before .before .before .before .before .before .before in
+    let st = c .before .before .before .before .before .before .before .before .before .before .before .before .before .before .before .before .before .before .before in
     let put = c .before .before .before .before .before .before .before .put-waters in
     let tree : List Float → ℕ → Subtrees = λ l k. treeOn (st .args .cell) (st .args .solutes .now) (st .args .starts .now) (st .args .picks .now) l k in
     let same = ap₂ tree (put .ensures .1) (put .ensures .0) ∙ over-waters (st .args .cell) (st .args .solutes .now) (st .args .waters .now) (st .args .starts .now) (st .args .picks .now) _ in
@@ -63,14 +64,14 @@ answered c =
 
 -- where it counted nodes: nothing is refused, they are the tree's, and the tables hold them
 counted :
-    (c : tie.After-n) → let st = c .before .before .before .before .before .before .before .before .before .before .before .before .before .before .before .before .before .before .before .before .before .before .before .before .before .before .before .before in
+    (c : tie.After-n) → let st = c .before .before .before .before .before .before .before .before .before .before .before .before .before .before .before .before .before .before .before .before .before .before .before .before .before .before .before .before .before in
     let made = c .before .before .before .before .before .before .before .before .before .before .tree-of in
     ((0 ≡ treeRefusal (room st) (inFrame st)) × ((c .n .given .0 .0 ≡ length (inFrame st .nodes)) × (c .n .given .0 .1 .0 ≡ deepest (inFrame st .nodes))))
     × Leaves 0 (inFrame st) (copiesIn (st .args .starts .now)) (finiteWaters (st .args .waters .now))
     (st .args .center-order .now) (made .last .1 .1 .1 .1 .1 .1 .0) (st .args .water-order .now) (made .last .1 .1 .1 .1 .1 .1 .1 .0)
     (st .args .records .now) (made .last .1 .1 .1 .1 .1 .1 .1 .1 .0) (st .args .boxes .now) (made .last .1 .1 .1 .1 .1 .1 .1 .1 .1 .0)
 counted c =
-    let st = c .before .before .before .before .before .before .before .before .before .before .before .before .before .before .before .before .before .before .before .before .before .before .before .before .before .before .before .before in
+    let st = c .before .before .before .before .before .before .before .before .before .before .before .before .before .before .before .before .before .before .before .before .before .before .before .before .before .before .before .before .before in
     let nodes = c .n .given in
     let got = rw (nodes .1) at (answered (c .before .before .before .before .before .before .before .before .before .before)) in
     let told = built-told (inFrame st) (room st) (Nodes (nodes .0 .0) (nodes .0 .1 .0)) (got .0) in
@@ -79,7 +80,7 @@ counted c =
 -- the waters written are few, and stand within the local array
 few-waters : (c : tie.After-put-waters) → (c .put-waters .result ≤ 65536) × (c .put-waters .result * 3 ≤ length (c .put-waters .last .1 .1 .0))
 few-waters c =
-    let st = c .before .before .before .before .before .before .before .before .before .before .before in
+    let st = c .before .before .before .before .before .before .before .before .before .before .before .before in
     let size = c .put-waters .kept .1 .1 .0 in
     let count = c .put-waters .ensures .0 in
     let three = waters-length (st .args .cell) (st .args .waters .now) in
@@ -97,7 +98,7 @@ slice-aggregate-tree-of c = search needs
 
 tree-of-requires : tie.Need-tree-of-requires
 tree-of-requires c κs =
-    let st = c .before .before .before .before .before .before .before .before .before .before .before .before .before .before .before .before .before in
+    let st = c .before .before .before .before .before .before .before .before .before .before .before .before .before .before .before .before .before .before in
     let put = c .before .before .before .before .before .before in
     let few = few-waters put in
     (st .pre .0, ((few .1, few .0), (st .pre .1 .1 .0, omega (arith, put .put-waters .ensures .0, st .pre .1 .1 .1))))
@@ -128,18 +129,18 @@ same-length-5 c = search needs
 
 returns : tie.Need-returns
 returns c =
-    let st = c .before .before .before .before .before .before .before .before .before .before .before .before .before .before .before .before .before .before .before .before .before .before .before .before .before .before .before .before .before .before .before .before in
+    let st = c .before .before .before .before .before .before .before .before .before .before .before .before .before .before .before .before .before .before .before .before .before .before .before .before .before .before .before .before .before .before .before .before .before in
     let got = rw (c .before .before .before .before .enum-told .given .1) at (answered (c .before .before .before .before .before .before .before .before .before .before .before .before .before .before)) in
     let thirteen = built-told (inFrame st) (room st) Full (got .0) .0 in
     let cleared = c .before .before .clear .ensures ∙ leaves-cleared (st .args .cell) (st .args .waters .now) (st .args .starts .now) (inFrame st .nodes) (st .args .leaves .now) in
     (answer-refused 13 _ (inFrame st .nodes) (λ h. omega arith) thirteen, (got .1 .0, (got .1 .1 .0, (got .1 .1 .1 .0, (got .1 .1 .1 .1, cleared)))))
 
 density-requires : tie.Need-density-requires
-density-requires c κs = let put = c .before .before .before .before .before .before .before .before .before .before .before .before .before .before .before .before .before .before in omega (arith, few-waters put .0, put .before .before .before .before .before .before .before .before .before .before .before .pre .1 .0)
+density-requires c κs = let put = c .before .before .before .before .before .before .before .before .before .before .before .before .before .before .before .before .before .before in omega (arith, few-waters put .0, put .before .before .before .before .before .before .before .before .before .before .before .before .pre .1 .0)
 
 sub-reference-volume : tie.Need-sub-reference-volume
 sub-reference-volume c =
-    let st = c .before .before .before .before .before .before .before .before .before .before .before .before .before .before .before .before .before .before .before .before .before .before .before .before .before .before .before .before .before .before in
+    let st = c .before .before .before .before .before .before .before .before .before .before .before .before .before .before .before .before .before .before .before .before .before .before .before .before .before .before .before .before .before .before .before in
     omega (arith, sound-lists (st .args .solutes .now) (st .args .starts .now) (st .args .picks .now) (st .pre .0) .number)
 
 reference-volume-requires : tie.Need-reference-volume-requires
@@ -150,7 +151,7 @@ slice-aggregate-put-leaves c = search needs
 
 put-leaves-requires : tie.Need-put-leaves-requires
 put-leaves-requires c κs =
-    let st = c .before .before .before .before .before .before .before .before .before .before .before .before .before .before .before .before .before .before .before .before .before .before .before .before .before .before .before .before .before .before .before .before .before .before .before in
+    let st = c .before .before .before .before .before .before .before .before .before .before .before .before .before .before .before .before .before .before .before .before .before .before .before .before .before .before .before .before .before .before .before .before .before .before .before .before in
     let got = counted (c .before .before .before .before .before .before .before) in
     let few = few-waters (c .before .before .before .before .before .before .before .before .before .before .before .before .before .before .before .before .before .before .before .before .before .before .before .before) in
     let count = got .0 .1 .0 in
@@ -179,7 +180,7 @@ same-length-10 c = search needs
 
 returns-2 : tie.Need-returns-2
 returns-2 c =
-    let st = c .before .before .before .before .before .before .before .before .before .before .before .before .before .before .before .before .before .before .before .before .before .before .before .before .before .before .before .before .before .before .before .before .before .before .before .before .before .before in
+    let st = c .before .before .before .before .before .before .before .before .before .before .before .before .before .before .before .before .before .before .before .before .before .before .before .before .before .before .before .before .before .before .before .before .before .before .before .before .before .before .before in
     let put = c .before .before .before .before .before .before .before .before .before .before .before .before .before .before .before .before .before .before .before .before .before .before .before .before .before .before .before .put-waters in
     let nodes = c .before .before .before .before .before .before .before .before .before .before .n .given in
     let got = counted (c .before .before .before .before .before .before .before .before .before .before) in
@@ -197,6 +198,7 @@ pub report-of-spec : {M : Type 1} → statement M
 report-of-spec =
     tie.close
     (tie.spec
+    (λ c κs. search needs)
     slice-aggregate-put-waters
     put-waters-requires
     slice-aggregate-tree-of

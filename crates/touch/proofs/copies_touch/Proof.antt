@@ -1,7 +1,7 @@
 -- `touch::copies_touch` meets its contract: the picks of both copies are searched. Assumes nothing.
 use borrow.Author.Needs.{needs}
-use Rattle.selection.proofs.SoundLists.{sound-lists}
-use Rattle.selection.proofs.CopyPicks.{copy-part, copy-atoms}
+use Rattle.pick_lists.proofs.SoundLists.{sound-lists}
+use Rattle.pick_lists.proofs.CopyPicks.{copy-part, copy-atoms}
 use Rattle.touch.specs.Touch.{copiesTouch}
 use Rattle.touch.proofs.copies_touch.Statement.{statement}
 use Rattle.touch.proofs.copies_touch.Tie as tie

@@ -2,8 +2,8 @@
 use mathlib.Core.Path.{sym, _∙_}
 use native.Mathlib.Omega.{arith}
 use borrow.Author.Needs.{needs}
-use Rattle.selection.proofs.InputRefusals.{input-accepted}
-use Rattle.selection.proofs.SoundLists.{sound-lists}
+use Rattle.pick_lists.proofs.InputRefusals.{input-accepted}
+use Rattle.pick_lists.proofs.SoundLists.{sound-lists}
 use Rattle.tree.proofs.TreeRefusals.{test-input, test-centers, test-waters, test-none}
 use Rattle.tree.proofs.refusal.Statement.{statement}
 use Rattle.tree.proofs.refusal.Tie as tie

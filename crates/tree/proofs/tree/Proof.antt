@@ -7,11 +7,11 @@ use native.Mathlib.Omega.{arith}
 use borrow.Author.Needs.{needs}
 use lib.ListN.{length}
 use lib.Ieee.{Float}
-use Rattle.selection.specs.Sound.{copiesIn}
+use Rattle.pick_lists.specs.Sound.{copiesIn}
 use Rattle.octree.specs.Tree.{Subtrees, treeRoom, treeRefusal, builtAnswer, builtNumber}
-use Rattle.tree.specs.Points.{finiteWaters}
+use Rattle.points.specs.Points.{finiteWaters}
 use Rattle.tree.specs.Tree.{frameTree, treeOn, wholeRecords, treeCallRefusal, treeAnswer}
-use Rattle.tree.proofs.WaterList.{waters-length, waters-few}
+use Rattle.points.proofs.WaterList.{waters-length, waters-few}
 use Rattle.tree.proofs.TreeRefusals.{Tested, tested, call-tested, call-room}
 use Rattle.tree.proofs.Outcomes.{Leaves, unchanged, answers-same, asTree, tree-built, tree-refused, over-waters}
 use Rattle.tree.proofs.tree.Statement.{statement}
@@ -34,7 +34,7 @@ passed c =
 
 -- what the builder answered is Tree's answer
 answered :
-    (c : tie.After-tree-of) → let st = c .before .before .before .before .before .before .before .before .before .before .before .before .before .before .before .before .before .before .before .before .before in
+    (c : tie.After-tree-of) → let st = c .before .before .before .before .before .before .before .before .before .before .before .before .before .before .before .before .before .before .before .before .before .before in
     let t = inFrame st in
     let b = c .tree-of .result in
     (asTree b ≡ treeAnswer (refused st) t)
@@ -42,9 +42,9 @@ answered :
     (st .args .center-order .now) (c .tree-of .last .1 .1 .1 .1 .1 .1 .0) (st .args .water-order .now) (c .tree-of .last .1 .1 .1 .1 .1 .1 .1 .0)
     (st .args .records .now) (c .tree-of .last .1 .1 .1 .1 .1 .1 .1 .1 .0) (st .args .boxes .now) (c .tree-of .last .1 .1 .1 .1 .1 .1 .1 .1 .1 .0)
 answered c =
-    let st = c .before .before .before .before .before .before .before .before .before .before .before .before .before .before .before .before .before .before .before .before .before in
+    let st = c .before .before .before .before .before .before .before .before .before .before .before .before .before .before .before .before .before .before .before .before .before .before in
     let put = c .before .before .before .before .before .before .before .put-waters in
-    let else = c .before .before .before .before .before .before .before .before .before in
+    let else = c .before .before .before .before .before .before .before .before .before .before in
     let room = wholeRecords (st .args .records .now) (st .args .boxes .now) in
     let same-room : treeRoom (st .args .records .now) (st .args .boxes .now) (length (st .args .records .now) / 8) ≡ room = omega arith in
     let tree : List Float → ℕ → Subtrees = λ l k. treeOn (st .args .cell) (st .args .solutes .now) (st .args .starts .now) (st .args .picks .now) l k in
@@ -96,16 +96,16 @@ slice-aggregate-put-waters : tie.Need-slice-aggregate-put-waters
 slice-aggregate-put-waters c = search needs
 
 put-waters-requires : tie.Need-put-waters-requires
-put-waters-requires c κs = passed (c .before) .waters-few
+put-waters-requires c κs = omega (arith, passed (c .before .before) .waters-few)
 
 slice-aggregate-tree-of : tie.Need-slice-aggregate-tree-of
 slice-aggregate-tree-of c = search needs
 
 tree-of-requires : tie.Need-tree-of-requires
 tree-of-requires c κs =
-    let st = c .before .before .before .before .before .before .before .before .before .before .before .before .before .before .before .before .before .before .before .before in
+    let st = c .before .before .before .before .before .before .before .before .before .before .before .before .before .before .before .before .before .before .before .before .before in
     let put = c .before .before .before .before .before .before .put-waters in
-    let ok = passed (c .before .before .before .before .before .before .before .before) in
+    let ok = passed (c .before .before .before .before .before .before .before .before .before) in
     let size = put .kept .1 .1 .0 in
     let m = put .ensures .0 in
     let three = waters-length (st .args .cell) (st .args .waters .now) in
@@ -156,6 +156,7 @@ tree-spec =
     same-length
     same-length-2
     returns
+    (λ c κs. search needs)
     slice-aggregate-put-waters
     put-waters-requires
     slice-aggregate-tree-of

@@ -5,8 +5,8 @@ use mathlib.Core.List.{List}
 use native.Mathlib.Omega.{arith}
 use borrow.Author.Needs.{needs}
 use lib.Ieee.{Float}
-use Rattle.selection.specs.Sound.{copiesIn}
-use Rattle.selection.proofs.SoundLists.{sound-lists}
+use Rattle.pick_lists.specs.Sound.{copiesIn}
+use Rattle.pick_lists.proofs.SoundLists.{sound-lists}
 use Rattle.octree.specs.Tree.{Subtrees, treeRoom}
 use Rattle.tree.specs.Tree.{treeOver, treeOn}
 use Rattle.tree.proofs.Outcomes.{answers-same, over-centers}
@@ -18,7 +18,7 @@ slice-aggregate-put-centers c = search needs
 
 put-centers-requires : tie.Need-put-centers-requires
 put-centers-requires c κs =
-    let st = c .before .before .before .before .before .before .before .before .before in
+    let st = c .before .before .before .before .before .before .before .before .before .before in
     (st .pre .0, omega (arith, sound-lists (st .args .solutes .now) (st .args .starts .now) (st .args .picks .now) (st .pre .0) .few))
 
 slice-aggregate-tree-over : tie.Need-slice-aggregate-tree-over
@@ -26,12 +26,12 @@ slice-aggregate-tree-over c = search needs
 
 sub-tree-over : tie.Need-sub-tree-over
 sub-tree-over c =
-    let st = c .before .before .before .before .before .before .before .before .before .before .before .before in
+    let st = c .before .before .before .before .before .before .before .before .before .before .before .before .before in
     omega (arith, sound-lists (st .args .solutes .now) (st .args .starts .now) (st .args .picks .now) (st .pre .0) .number)
 
 tree-over-requires : tie.Need-tree-over-requires
 tree-over-requires c κs =
-    let st = c .before .before .before .before .before .before .before .before .before .before .before .before .before .before .before .before in
+    let st = c .before .before .before .before .before .before .before .before .before .before .before .before .before .before .before .before .before in
     let few = sound-lists (st .args .solutes .now) (st .args .starts .now) (st .args .picks .now) (st .pre .0) .few in
     let size = c .before .before .before .before .before .before .put-centers .kept .1 .1 .1 .1 .0 in
     ((omega arith, st .pre .1 .0 .0, omega arith, st .pre .1 .0 .1), st .pre .1 .1)
@@ -50,7 +50,7 @@ same-length-4 c = search needs
 
 returns : tie.Need-returns
 returns c =
-    let st = c .before .before .before .before .before .before .before .before .before .before .before .before .before .before .before .before .before .before .before .before .before .before .before .before .before in
+    let st = c .before .before .before .before .before .before .before .before .before .before .before .before .before .before .before .before .before .before .before .before .before .before .before .before .before .before in
     let put = c .before .before .before .before .before .before .before .before .before .before .before .before .before .before .before in
     let over = c .before .before .before .before .before .before .before .before .tree-over in
     let n = copiesIn (st .args .starts .now) in
@@ -80,6 +80,7 @@ pub tree-of-spec : {M : Type 1} → statement M
 tree-of-spec =
     tie.close
     (tie.spec
+    (λ c κs. search needs)
     slice-aggregate-put-centers
     put-centers-requires
     slice-aggregate-tree-over

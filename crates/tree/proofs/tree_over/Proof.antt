@@ -6,7 +6,7 @@ use native.Mathlib.Omega.{arith}
 use borrow.Author.Needs.{needs}
 use lib.ListN.{length, take}
 use lib.Seq.{length-take-le}
-use Rattle.octants.specs.Bounds.{cellBox}
+use Rattle.bounds.specs.Bounds.{cellBox}
 use Rattle.octree.specs.Tree.{treeOf, treeRoom}
 use Rattle.tree.specs.Tree.{treeOver}
 use Rattle.tree.proofs.Outcomes.{parts-back}

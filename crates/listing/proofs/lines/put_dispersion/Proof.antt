@@ -4,8 +4,8 @@ use mathlib.Core.List.{List, [], _∷_}
 use Prim.Native.Nat.{ℕ}
 use native.Mathlib.Omega.{arith}
 use lib.Ieee.{Float}
-use Rattle.listing.specs.Text.{ascii}
-use Rattle.listing.specs.Listing.{hexBits, dispersionLine}
+use Rattle.text.specs.Text.{ascii, hexBits}
+use Rattle.listing.specs.Listing.{dispersionLine}
 use Rattle.listing.proofs.Words.{Words, words-first, words-next, words-last, next-fits, last-fits}
 use borrow.Author.Needs.{needs}
 use Rattle.listing.proofs.lines.put_dispersion.Statement.{statement}

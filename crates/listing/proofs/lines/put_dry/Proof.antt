@@ -3,7 +3,7 @@ use mathlib.Core.Path.{refl}
 use mathlib.Core.List.{List, [], _∷_}
 use Prim.Native.Nat.{ℕ}
 use native.Mathlib.Omega.{arith}
-use Rattle.listing.specs.Text.{ascii, decimal}
+use Rattle.text.specs.Text.{ascii, decimal}
 use Rattle.listing.specs.Listing.{dryLine}
 use Rattle.listing.proofs.Words.{Words, words-first, words-next, words-last, next-fits, last-fits}
 use borrow.Author.Needs.{needs}

@@ -4,7 +4,7 @@ use Prim.Native.Nat.{ℕ}
 use native.Mathlib.Omega.{arith}
 use Rattle.listing.specs.Listing.{clustersLine, dispersionLine, nodesLine, leafLines, dryLine, listingText}
 use Rattle.cell.proofs.Tables.{Filling, filling-first}
-use Rattle.listing.proofs.Writing.{piece-fits, piece, last-piece}
+use Rattle.listing.proofs.Pieces.{piece-fits, piece, last-piece}
 use borrow.Author.Needs.{needs}
 use Rattle.listing.proofs.lines.put_lines.Statement.{statement}
 use Rattle.listing.proofs.lines.put_lines.Tie as tie

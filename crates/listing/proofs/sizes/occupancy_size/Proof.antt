@@ -1,9 +1,8 @@
 -- `listing::sizes::occupancy_size` meets its contract: the definition's two cases have three and eight bytes. Assumes nothing.
 use native.Mathlib.Omega.{arith}
 use borrow.Author.Tests.{eq-eqb, ne-eqb}
-use Rattle.listing.specs.Text.{hex}
-use Rattle.listing.specs.Listing.{occupancy}
-use Rattle.listing.proofs.Numerals.{length-digits}
+use Rattle.text.specs.Text.{hex, occupancy}
+use Rattle.text.proofs.Numerals.{length-digits}
 use Rattle.listing.proofs.sizes.occupancy_size.Statement.{statement}
 use Rattle.listing.proofs.sizes.occupancy_size.Tie as tie
 

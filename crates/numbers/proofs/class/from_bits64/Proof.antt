@@ -2,8 +2,8 @@
 use mathlib.Core.Path.{_≡_, refl, sym, _∙_}
 use borrow.Author.Needs.{needs}
 use lib.Ieee.{nan, binary64, ofBits, div}
-use Rattle.numbers.proofs.Patterns.{nan-tested}
-use Rattle.numbers.proofs.Tests.{fails}
+use Rattle.floats.proofs.Patterns.{nan-tested}
+use Rattle.floats.proofs.Tests.{fails}
 use Rattle.numbers.proofs.class.from_bits64.Statement.{statement}
 use Rattle.numbers.proofs.class.from_bits64.Tie as tie
 

@@ -1,6 +1,6 @@
 -- `numbers::class::is_finite32` meets its contract: x - x is 0 exactly where x is finite (`ExactResults`). Assumes nothing.
 use lib.Ieee.{binary32, ofBits}
-use Rattle.numbers.proofs.ExactResults.{finite-test}
+use Rattle.floats.proofs.ExactResults.{finite-test}
 use Rattle.numbers.proofs.class.is_finite32.Statement.{statement}
 use Rattle.numbers.proofs.class.is_finite32.Tie as tie
 

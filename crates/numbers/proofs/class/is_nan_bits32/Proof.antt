@@ -4,7 +4,7 @@ use mathlib.Core.Path.{sym, ap, _∙_}
 use lib.Dec.{ltb}
 use lib.Ieee.{binary32}
 use lib.Ieee.Bits.{nanBits-above}
-use Rattle.numbers.proofs.Patterns.{unsigned-is}
+use Rattle.floats.proofs.Patterns.{unsigned-is}
 use Rattle.numbers.proofs.class.is_nan_bits32.Statement.{statement}
 use Rattle.numbers.proofs.class.is_nan_bits32.Tie as tie
 

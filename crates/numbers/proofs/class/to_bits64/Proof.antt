@@ -2,7 +2,7 @@
 use mathlib.Core.Path.{_≡_, refl, sym, ap, _∙_}
 use borrow.Author.Needs.{needs}
 use lib.Ieee.{nan, binary64, toBits}
-use Rattle.numbers.proofs.Through.{is-nan, no-nan}
+use Rattle.floats.proofs.Through.{is-nan, no-nan}
 use Rattle.numbers.proofs.class.to_bits64.Statement.{statement}
 use Rattle.numbers.proofs.class.to_bits64.Tie as tie
 

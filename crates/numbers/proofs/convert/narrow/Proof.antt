@@ -4,9 +4,9 @@ use Prim.Native.Nat.{ℕ}
 use borrow.Author.Needs.{needs}
 use lib.Dec.{T}
 use lib.Ieee.{binary32, binary64, fits, ofBits, toBits}
-use Rattle.numbers.specs.Convert.{narrowOf}
-use Rattle.numbers.proofs.Through.{narrow-fits}
-use Rattle.numbers.proofs.Through.{by-bits}
+use Rattle.floats.specs.Convert.{narrowOf}
+use Rattle.floats.proofs.Through.{narrow-fits}
+use Rattle.floats.proofs.Through.{by-bits}
 use Rattle.numbers.proofs.convert.narrow.Statement.{statement}
 use Rattle.numbers.proofs.convert.narrow.Tie as tie
 

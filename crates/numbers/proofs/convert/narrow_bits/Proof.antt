@@ -5,8 +5,8 @@ use native.Mathlib.Omega.{arith}
 use borrow.Author.Needs.{needs}
 use lib.Bits.{bitAnd, and-mask}
 use lib.Ieee.{binary32, binary64, ofBits, toBits}
-use Rattle.numbers.specs.Convert.{narrowOf}
-use Rattle.numbers.proofs.NarrowArms.{narrow-minus, narrow-nan}
+use Rattle.floats.specs.Convert.{narrowOf}
+use Rattle.floats.proofs.NarrowArms.{narrow-minus, narrow-nan}
 use Rattle.numbers.proofs.convert.narrow_bits.Statement.{statement}
 use Rattle.numbers.proofs.convert.narrow_bits.Tie as tie
 

@@ -6,8 +6,8 @@ use native.Mathlib.Omega.{arith}
 use borrow.Author.Needs.{needs}
 use lib.Dec.{lit≤}
 use lib.Ieee.{binary64}
-use Rattle.numbers.proofs.Fields.{lead-is}
-use Rattle.numbers.proofs.NarrowArms.{narrow-normal-le, narrow-normal, narrow-low-le, narrow-low, narrow-zero, narrow-over}
+use Rattle.floats.proofs.Fields.{lead-is}
+use Rattle.floats.proofs.NarrowArms.{narrow-normal-le, narrow-normal, narrow-low-le, narrow-low, narrow-zero, narrow-over}
 use Rattle.numbers.proofs.convert.narrow_size.Statement.{statement}
 use Rattle.numbers.proofs.convert.narrow_size.Tie as tie
 

@@ -6,7 +6,7 @@ use native.Mathlib.Omega.{arith}
 use borrow.Author.Needs.{needs}
 use lib.Pow.{pow-pos}
 use lib.Bits.{and-le-l}
-use Rattle.numbers.proofs.ClosestShift.{unit-is, shift-down, shift-up, shift-tie}
+use Rattle.floats.proofs.ClosestShift.{unit-is, shift-down, shift-up, shift-tie}
 use Rattle.numbers.proofs.convert.shift_nearest.Statement.{statement}
 use Rattle.numbers.proofs.convert.shift_nearest.Tie as tie
 

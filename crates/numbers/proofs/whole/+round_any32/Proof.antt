@@ -8,10 +8,10 @@ use lib.Ieee.{Float, nan, inf, fin, binary32, up, down, neg, lt, ofBits}
 use borrow.Author.Tests.{ltb-true, le-ltb}
 use borrow.Fn.Kinds.{In}
 use borrow.Fn.PlainCycle.{Measures, is, falls, and}
-use Rattle.numbers.proofs.SizeTests.{zero32}
-use Rattle.numbers.specs.Whole.{roundOf}
-use Rattle.numbers.proofs.Signs.{neg-neg}
-use Rattle.numbers.proofs.Negation.{roundOf-neg}
+use Rattle.floats.proofs.SizeTests.{zero32}
+use Rattle.floats.specs.Whole.{roundOf}
+use Rattle.floats.proofs.Signs.{neg-neg}
+use Rattle.floats.proofs.Negation.{roundOf-neg}
 use Rattle.numbers.proofs.whole.round_any32.Reads as round-any32
 use Rattle.numbers.proofs.whole.round_any32.Kinds as round-any32-kinds
 use Rattle.numbers.proofs.whole.+round_any32.Lts-round_any32 as round-any32-lts

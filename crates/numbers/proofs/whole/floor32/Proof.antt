@@ -1,8 +1,8 @@
 -- `numbers::whole::floor32` meets its contract. From 0 up to 1 the result is a zero with x's sign, which x * 0.0 is. Assumes nothing.
 use borrow.Author.Needs.{needs}
 use lib.Ieee.{neg, ofBits}
-use Rattle.numbers.proofs.Tests.{holds}
-use Rattle.numbers.proofs.FloorArms.{unit-zero}
+use Rattle.floats.proofs.Tests.{holds}
+use Rattle.floats.proofs.FloorArms.{unit-zero}
 use Rattle.numbers.proofs.whole.floor32.Statement.{statement}
 use Rattle.numbers.proofs.whole.floor32.Tie as tie
 

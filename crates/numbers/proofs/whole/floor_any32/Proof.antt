@@ -4,9 +4,9 @@ use Prim.Native.Nat.{ℕ, _<_}
 use native.Mathlib.Omega.{arith}
 use lib.Dec.{T, lit≤}
 use lib.Ieee.{Float, binary32, neg, fits, ofBits}
-use Rattle.numbers.proofs.Tests.{holds, fails}
-use Rattle.numbers.proofs.SizeTests.{Small, small, small-neg, part, in-range, cut-is, cut-lt, in-float, large, large-neg, neither}
-use Rattle.numbers.proofs.FloorArms.{floor-up, floor-same, floor-plus, floor-large, floor-nothing}
+use Rattle.floats.proofs.Tests.{holds, fails}
+use Rattle.floats.proofs.SizeTests.{Small, small, small-neg, part, in-range, cut-is, cut-lt, in-float, large, large-neg, neither}
+use Rattle.floats.proofs.FloorArms.{floor-up, floor-same, floor-plus, floor-large, floor-nothing}
 use Rattle.numbers.proofs.whole.floor_any32.Statement.{statement}
 use Rattle.numbers.proofs.whole.floor_any32.Tie as tie
 

@@ -2,7 +2,7 @@
 use mathlib.Core.Path.{ap, _∙_}
 use borrow.Author.Needs.{needs}
 use lib.Ieee.{binary32, toBits}
-use Rattle.numbers.specs.Whole.{floorOf}
+use Rattle.floats.specs.Whole.{floorOf}
 use Rattle.numbers.proofs.whole.floor_bits32.Statement.{statement}
 use Rattle.numbers.proofs.whole.floor_bits32.Tie as tie
 

@@ -1,9 +1,9 @@
 -- `numbers::whole::round_near_zero32` meets its contract: the two tests give the result (`units-round`). Assumes nothing.
 use borrow.Author.Needs.{needs}
 use lib.Ieee.{neg, lt, ofBits}
-use Rattle.numbers.specs.Whole.{nearZero}
-use Rattle.numbers.proofs.Tests.{holds, both}
-use Rattle.numbers.proofs.RoundArms.{threeHalves32, units-round}
+use Rattle.floats.specs.Whole.{nearZero}
+use Rattle.floats.proofs.Tests.{holds, both}
+use Rattle.floats.proofs.RoundArms.{threeHalves32, units-round}
 use Rattle.numbers.proofs.whole.round_near_zero32.Statement.{statement}
 use Rattle.numbers.proofs.whole.round_near_zero32.Tie as tie
 

@@ -5,10 +5,10 @@ use native.Mathlib.Omega.{arith}
 use lib.Dec.{T, lit≤}
 use lib.Ieee.{Float, binary32, add, toUnsigned, fits, ofBits}
 use lib.Ieee.Positive.{num, den}
-use Rattle.numbers.specs.Whole.{halfUp}
-use Rattle.numbers.proofs.Tests.{holds, fails}
-use Rattle.numbers.proofs.SizeTests.{Small, small, in-range, cut-is, cut-lt, in-float, large, neither}
-use Rattle.numbers.proofs.RoundArms.{doubled, round-plus, round-large, round-nothing}
+use Rattle.floats.specs.Whole.{halfUp}
+use Rattle.floats.proofs.Tests.{holds, fails}
+use Rattle.floats.proofs.SizeTests.{Small, small, in-range, cut-is, cut-lt, in-float, large, neither}
+use Rattle.floats.proofs.RoundArms.{doubled, round-plus, round-large, round-nothing}
 use Rattle.numbers.proofs.whole.round_size32.Statement.{statement}
 use Rattle.numbers.proofs.whole.round_size32.Tie as tie
 

@@ -13,7 +13,7 @@ use mathlib.Core.List.{List}
 use Prim.Native.Nat.{ℕ, _+_, _-_, _*_, _≤_, _<_, max}
 use lib.ListN.{length, getD}
 use lib.Ieee.{Float}
-use Rattle.octants.specs.declared.bounds.OctreeBounds.{OctreeBounds}
+use Rattle.bounds.specs.declared.OctreeBounds.{OctreeBounds}
 use Rattle.octree.specs.Tree.{rooted, subtree}
 use Rattle.octree.specs.Inner.{Ready, Planted}
 use Rattle.octree.proofs.Children.{subtree-by, subtree-roots, subtree-some}
@@ -23,9 +23,9 @@ use Rattle.octree.proofs.Planting.{finish, full-of, filled-of}
 use Rattle.octree.proofs.build.build.Reads as build
 use Rattle.octree.proofs.build.build.Kinds as build-kinds
 use Rattle.octree.proofs.build.+build.Lts-build as build-lts
-use Rattle.octants.proofs.bounds.OctreeBounds.child.Reads as child-reads
+use Rattle.bounds.proofs.OctreeBounds.child.Reads as child-reads
 use Rattle.octree.proofs.build.larger.Reads as larger-reads
-use Rattle.octants.proofs.divide.Reads as divide-reads
+use Rattle.division.proofs.divide.Reads as divide-reads
 use Rattle.nodes.proofs.put_node.Reads as put-node-reads
 use Rattle.octree.proofs.build.+build.{statement}
 use Rattle.octree.proofs.build.+build.Tie.{close}

@@ -1,0 +1,2 @@
+-- Boxes, and the octants of points.
+pub mod Bounds

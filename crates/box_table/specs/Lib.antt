@@ -1,0 +1,2 @@
+-- The boxes of all copies in one table.
+pub mod BoxTable

@@ -1,0 +1,112 @@
+-- `centers::center` meets its contract. The loop's invariant: the picks from `j` on, added to the sum, give the sum of all. Assumes nothing.
+use Prim.Native.Nat.{ℕ, _≤_, _-_}
+use mathlib.Core.Path.{_≡_, refl, sym, _∙_}
+use native.Mathlib.Omega.{arith}
+use borrow.Author.Needs.{needs}
+use mir.Syntax.{w32, w64}
+use mir.Val.{Fits}
+use lib.ListN.{length, drop}
+use Rattle.centers.specs.Centers.{origin, unwrapped, sumFrom, anchorOf, centerOf}
+use Rattle.centers.proofs.Sums.{sum-more, sum-none}
+use Rattle.centers.proofs.center.Statement.{statement}
+use Rattle.centers.proofs.center.Tie as tie
+
+abbrev Inv-loop : tie.InvT-loop
+Inv-loop cell xs picks anchor sum₀ j₀ sum j = (j ≤ length picks) × (sumFrom cell xs anchor sum (drop j picks) ≡ sumFrom cell xs anchor origin picks) × (anchor ≡ anchorOf cell xs picks)
+
+abbrev μ-loop : tie.MeasureT-loop
+μ-loop cell xs picks anchor sum₀ j₀ sum j = length picks - j
+
+shared-slice-read-point : tie.Need-shared-slice-read-point Inv-loop μ-loop
+shared-slice-read-point c = search needs
+
+-- a pick is an index, whichever it is
+wide : (n : ℕ) → Fits w32 n → Fits w64 n
+wide n h = omega arith
+
+cast-point : tie.Need-cast-point Inv-loop μ-loop
+cast-point c = wide _ (c .shared-slice-known3 .given _)
+
+point-requires : tie.Need-point-requires Inv-loop μ-loop
+point-requires c κs = c .before .before .before .pre .1 _ (search needs)
+
+wrap-requires : tie.Need-wrap-requires Inv-loop μ-loop
+wrap-requires c κs = search needs
+
+loop-holds : tie.Need-loop-holds Inv-loop μ-loop
+unfolding anchorOf
+loop-holds c = (search needs, refl, rw (c .wrap .ensures, c .before .point .ensures))
+
+mul-point : tie.Need-mul-point Inv-loop μ-loop
+mul-point c = search needs
+
+shared-slice-read-point-2 : tie.Need-shared-slice-read-point-2 Inv-loop μ-loop
+shared-slice-read-point-2 c = search needs
+
+cast-point-2 : tie.Need-cast-point-2 Inv-loop μ-loop
+cast-point-2 c = wide _ (c .shared-slice-known4 .given _)
+
+point-requires-2 : tie.Need-point-requires-2 Inv-loop μ-loop
+point-requires-2 c κs =
+    let at = c .before .before in
+    let st = at .before .before .before .before .before in
+    st .before .pre .1 (at .loop .j) (c .before .loop-test .taken)
+
+beside-requires : tie.Need-beside-requires Inv-loop μ-loop
+beside-requires c κs = search needs
+
+add-requires : tie.Need-add-requires Inv-loop μ-loop
+add-requires c κs = search needs
+
+add-j : tie.Need-add-j Inv-loop μ-loop
+add-j c = search needs
+
+loop-less : tie.Need-loop-less Inv-loop μ-loop
+loop-less c = search needs
+
+loop-again : tie.Need-loop-again Inv-loop μ-loop
+unfolding unwrapped
+loop-again c =
+    let inside = c .before .before .before .before in
+    let at = inside .before in
+    let st = at .before .before .before .before .before .before in
+    let next = sum-more (st .args .cell) (st .args .xs .now) (at .before .wrap .result) (at .loop .sum) (st .args .picks .now) (at .loop .j) (inside .loop-test .taken) in
+    (search needs, rw (c .add .ensures, c .before .beside .ensures, c .before .before .point2 .ensures) (sym next ∙ at .loop .inv .1), at .loop .inv .2)
+
+divide-requires : tie.Need-divide-requires Inv-loop μ-loop
+divide-requires c κs = search needs
+
+wrap-requires-2 : tie.Need-wrap-requires-2 Inv-loop μ-loop
+wrap-requires-2 c κs = search needs
+
+returns : tie.Need-returns Inv-loop μ-loop
+unfolding centerOf
+returns c =
+    let at = c .before .before .before in
+    let st = at .before .before .before .before .before .before in
+    let all = sym (sum-none (st .args .cell) (st .args .xs .now) (at .before .wrap .result) (at .loop .sum) (st .args .picks .now) (at .loop .j) (c .before .before .loop-test .left)) ∙ at .loop .inv .1 in
+    c .wrap2 .ensures ∙ rw (c .before .divide .ensures, all, at .loop .inv .2)
+
+pub center-spec : {M : Type 1} → statement M
+center-spec =
+    tie.close
+    (tie.spec
+    Inv-loop
+    μ-loop
+    shared-slice-read-point
+    cast-point
+    point-requires
+    wrap-requires
+    loop-holds
+    mul-point
+    shared-slice-read-point-2
+    cast-point-2
+    point-requires-2
+    beside-requires
+    add-requires
+    add-j
+    loop-less
+    loop-again
+    divide-requires
+    wrap-requires-2
+    returns)

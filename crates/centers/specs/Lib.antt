@@ -1,0 +1,2 @@
+-- Centers of copies.
+pub mod Centers

@@ -1,0 +1,3 @@
+-- When a node splits, and what the contracts of dividing it cite.
+pub mod Split
+pub mod Inner

@@ -1,0 +1,58 @@
+-- `frame_limits::beyond` meets its contract. The loop's invariant: what was found before `i`, or what is left of the list from there
+-- on, decides. The measure is what is left of the length. Assumes nothing.
+use Prim.Native.Nat.{_≤_, _-_}
+use mathlib.Core.Path.{_≡_, refl, sym, ap, _∙_}
+use mathlib.Core.Bool.{Bool, _||_, or-false}
+use borrow.Author.Needs.{needs}
+use lib.ListN.{length, drop}
+use Rattle.frame_limits.specs.Limits.{beyond, any, maxCoordinate}
+use Rattle.frame_limits.proofs.Search.{any-step, any-end}
+use Rattle.frame_limits.proofs.beyond.Statement.{statement}
+use Rattle.frame_limits.proofs.beyond.Tie as tie
+
+abbrev Inv-loop : tie.InvT-loop
+Inv-loop xs found₀ i₀ found i = (i ≤ length xs) × ((found || any (beyond maxCoordinate) (drop i xs)) ≡ any (beyond maxCoordinate) xs)
+
+abbrev μ-loop : tie.MeasureT-loop
+μ-loop xs found₀ i₀ found i = length xs - i
+
+loop-holds : tie.Need-loop-holds Inv-loop μ-loop
+loop-holds c = (search needs, refl)
+
+mul-x : tie.Need-mul-x Inv-loop μ-loop
+mul-x c = search needs
+
+shared-slice-read-x : tie.Need-shared-slice-read-x Inv-loop μ-loop
+shared-slice-read-x c = search needs
+
+add-i : tie.Need-add-i Inv-loop μ-loop
+add-i c = search needs
+
+loop-less : tie.Need-loop-less Inv-loop μ-loop
+loop-less c = search needs
+
+loop-again : tie.Need-loop-again Inv-loop μ-loop
+loop-again c =
+    let inside = c .before in
+    let at = inside .before in
+    (search needs, any-step (beyond maxCoordinate) (at .before .args .xs .now) (at .loop .i) (at .loop .any) (inside .loop-test .taken) ∙ at .loop .inv .1)
+
+returns : tie.Need-returns Inv-loop μ-loop
+returns c =
+    let at = c .before in
+    let none = any-end (beyond maxCoordinate) (at .before .args .xs .now) (at .loop .i) (c .loop-test .left) in
+    sym (or-false (at .loop .any)) ∙ ap (λ (b : Bool). at .loop .any || b) (sym none) ∙ at .loop .inv .1
+
+pub beyond-spec : {M : Type 1} → statement M
+beyond-spec =
+    tie.close
+    (tie.spec
+    Inv-loop
+    μ-loop
+    loop-holds
+    mul-x
+    shared-slice-read-x
+    add-i
+    loop-less
+    loop-again
+    returns)

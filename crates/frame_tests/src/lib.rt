@@ -1,0 +1,43 @@
+// What the whole frame tests, after 1, 2, 3 and 4, before it writes anything (document 01, 'Whole frame'): blank, then 5, 6 and 7. The order of all
+// its refusals is crate `mixing`'s.
+ghost use mathlib.Core.Path.{_≡_};
+ghost use Rattle.cell.specs.Refusals.{firstRefusal};
+ghost use Rattle.frame_tests.specs.Tests.{isBlank, sizeRefusals};
+use cell::Cell;
+use frame_limits::MAX_COPIES;
+use frame_limits::MAX_PICKS;
+
+// Whether a frame with so many kept copies and finite waters is blank.
+pub fn is_blank(cell: Cell, solutes: &[f32], waters: &[f32], copies: usize, finite: usize) -> bool
+    ensures { λ r. ⌜ r ≡ isBlank cell (now (solutes .entry)) (now (waters .entry)) copies finite ⌝ }
+{
+    !cell::is_valid(cell)
+        | ((solutes.len() == 0) | ((waters.len() == 0) | ((copies == 0) | (finite == 0))))
+}
+
+// The first of 5, 6, 7 that holds, or 0: for so many copies, picks and finite waters, in tables of these lengths.
+pub fn size_refusal(
+    copies: usize,
+    picked: usize,
+    finite: usize,
+    starts: usize,
+    picks: usize,
+    clusters: usize,
+    center_order: usize,
+    water_order: usize,
+) -> u32
+    ensures { λ r. ⌜ r ≡ firstRefusal (sizeRefusals copies picked finite starts picks clusters «center_order» «water_order») ⌝ }
+{
+    if copies > MAX_COPIES {
+        return 5;
+    }
+    if picked > MAX_PICKS {
+        return 6;
+    }
+    if ((starts < copies + 1) | (picks < picked))
+        | ((clusters < 2 + 3 * copies) | ((center_order < copies) | (water_order < finite)))
+    {
+        return 7;
+    }
+    0
+}

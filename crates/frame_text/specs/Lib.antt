@@ -1,0 +1,2 @@
+-- What program `frame` prints for a frame.
+pub mod Texts

@@ -1,0 +1,114 @@
+// The text that program `frame` prints for a frame that was read (document 01): the whole frame is worked out in tables of the program's
+// sizes, and its answer listed. Beside what the whole frame keeps on its stack there are these tables, about 350,000 bytes.
+ghost use mathlib.Core.Path.{_≡_};
+ghost use mathlib.Core.Bool.{false};
+ghost use lib.ListN.{replicate};
+ghost use lib.Ieee.{binary32, ofBits};
+ghost use Rattle.listing.specs.Listing.{textAnswer, textAfter};
+ghost use Rattle.mixing.specs.Frame.{given};
+ghost use Rattle.frame_text.specs.Texts.{programTables, frameText};
+use cell::Cell;
+use listing::Listed;
+use mixing::FrameAnswer;
+
+// Local arrays are made by functions of their own: a function that has so long a list in its own code is costly to prove.
+fn start_room() -> [u32; 4097]
+    ensures { λ r. ⌜ r ≡ replicate 4097 0 ⌝ }
+{
+    [0u32; 4097]
+}
+
+// The picks, or 2,048 records.
+fn word_room() -> [u32; 16384]
+    ensures { λ r. ⌜ r ≡ replicate 16384 0 ⌝ }
+{
+    [0u32; 16384]
+}
+
+fn cluster_room() -> [u32; 12290]
+    ensures { λ r. ⌜ r ≡ replicate 12290 0 ⌝ }
+{
+    [0u32; 12290]
+}
+
+fn center_room() -> [u32; 4096]
+    ensures { λ r. ⌜ r ≡ replicate 4096 0 ⌝ }
+{
+    [0u32; 4096]
+}
+
+fn water_room() -> [u32; 4996]
+    ensures { λ r. ⌜ r ≡ replicate 4996 0 ⌝ }
+{
+    [0u32; 4996]
+}
+
+fn box_room() -> [f32; 12288]
+    ensures { λ r. ⌜ r ≡ replicate 12288 (ofBits binary32 0) ⌝ }
+{
+    [0f32; 12288]
+}
+
+// The text of a frame, worked out in tables of the program's sizes: 7, or the bytes written.
+pub fn put_frame(
+    cell: Cell,
+    solutes: &[f32],
+    per: usize,
+    indices: &[u32],
+    waters: &[f32],
+    out: &mut [u8],
+) -> Listed
+    ensures answer { λ r. ⌜ r ≡ textAnswer false (frameText (given cell (now (solutes .entry)) per (now (indices .entry)) (now (waters .entry))) programTables) (now (out .entry)) ⌝ }
+    ensures after { λ r. ⌜ now (out .exit) ≡ textAfter false (frameText (given cell (now (solutes .entry)) per (now (indices .entry)) (now (waters .entry))) programTables) (now (out .entry)) ⌝ }
+{
+    let mut starts = start_room();
+    let mut picks = word_room();
+    let mut clusters = cluster_room();
+    let mut center_order = center_room();
+    let mut water_order = water_room();
+    let mut records = word_room();
+    let mut boxes = box_room();
+    let mut leaves = word_room();
+    match mixing::frame(
+        cell,
+        solutes,
+        per,
+        indices,
+        waters,
+        &mut starts,
+        &mut picks,
+        &mut clusters,
+        &mut center_order,
+        &mut water_order,
+        &mut records,
+        &mut boxes,
+        &mut leaves,
+    ) {
+        FrameAnswer::Refused(number) => listing::put_refused(number, out),
+        FrameAnswer::Blank => listing::put_blank(out),
+        FrameAnswer::Mixed {
+            copies,
+            picks: _,
+            largest,
+            contacted,
+            pair,
+            dispersion,
+            nodes,
+            depth,
+            leaves: count,
+            dry,
+        } => listing::put_listing(
+            copies,
+            largest,
+            contacted,
+            pair,
+            dispersion,
+            nodes,
+            depth,
+            &leaves,
+            count,
+            dry,
+            out,
+        ),
+    }
+}

@@ -1,0 +1,2 @@
+-- The leaf table, node by node.
+pub mod LeafList

@@ -1,0 +1,200 @@
+// The leaf table (document 01, 'Leaf report'): eight words for each leaf with centers, from the node tables of a tree.
+ghost use mathlib.Core.Path.{_≡_};
+ghost use mathlib.Core.Bool.{_&&_, cond};
+ghost use mathlib.Core.List.{[], _∷_};
+ghost use Prim.Native.Nat.{ℕ, _+_, _*_, _^_, _≤_, _<_};
+ghost use lib.Dec.{eqb, ltb};
+ghost use lib.ListN.{length, getD, replicate};
+ghost use Rattle.cell.specs.Cell.{pointAt};
+ghost use Rattle.cell.specs.Tables.{placed, over};
+ghost use Rattle.bounds.specs.Bounds.{boxBetween};
+ghost use Rattle.leaf_table.specs.LeafTable.{leafWords, nodeWords, leavesFrom, reportedLeaves, dryLeaves};
+ghost use Rattle.leaf_table.specs.Inner.{nodeAt, nodesFrom};
+use bounds::OctreeBounds;
+use cell::Cell;
+
+// How many leaves are reported, and how many of them have no water in their own box.
+pub struct Counts {
+    pub reported: usize,
+    pub dry: usize,
+}
+
+fn word(x: usize) -> u32
+    requires { ⌜ x < 2 ^ 32 ⌝ }
+    ensures { λ r. ⌜ r ≡ x ⌝ }
+{
+    x as u32
+}
+
+// The box of node i.
+fn read_box(boxes: &[f32], i: usize) -> OctreeBounds
+    requires { ⌜ i * 6 + 6 ≤ length (now boxes) ⌝ }
+    ensures { λ r. ⌜ r ≡ boxBetween (pointAt (now (boxes .entry)) (i * 2)) (pointAt (now (boxes .entry)) (i * 2 + 1)) ⌝ }
+{
+    OctreeBounds::from_cell(Cell {
+        low: cell::point(boxes, i * 2),
+        high: cell::point(boxes, i * 2 + 1),
+    })
+}
+
+// Whether node i is a leaf with centers.
+fn is_reported(records: &[u32], i: usize) -> bool
+    requires { ⌜ i * 8 + 8 ≤ length (now records) ⌝ }
+    ensures { λ r. ⌜ r ≡ (eqb (getD (now (records .entry)) (i * 8 + 5) 0) 0 && ltb 0 (getD (now (records .entry)) (i * 8 + 2) 0)) ⌝ }
+{
+    (records[i * 8 + 5] == 0) & (records[i * 8 + 2] > 0)
+}
+
+// 1 where node i has no water in its box.
+fn dry_bit(records: &[u32], i: usize) -> usize
+    requires { ⌜ i * 8 + 8 ≤ length (now records) ⌝ }
+    ensures is { λ r. ⌜ r ≡ cond (eqb (getD (now (records .entry)) (i * 8 + 4) 0) 0) 1 0 ⌝ }
+    ensures small { λ r. ⌜ r ≤ 1 ⌝ }
+{
+    if records[i * 8 + 4] == 0 { 1 } else { 0 }
+}
+
+fn put_words(
+    dst: &mut [u32],
+    node: u32,
+    centers: u32,
+    wet: u32,
+    own: u32,
+    shell: u32,
+    around: u32,
+    score: u32,
+)
+    requires { ⌜ length (now dst) ≡ 8 ⌝ }
+    ensures { λ _. ⌜ now (dst .exit) ≡ node ∷ centers ∷ wet ∷ own ∷ shell ∷ around ∷ score ∷ 0 ∷ [] ⌝ }
+{
+    dst[0] = node;
+    dst[1] = centers;
+    dst[2] = wet;
+    dst[3] = own;
+    dst[4] = shell;
+    dst[5] = around;
+    dst[6] = score;
+    dst[7] = 0;
+}
+
+// Writes the eight words of a leaf: node i, with so many centers and waters in its box b.
+fn put_row(
+    cell: Cell,
+    waters: &[f32],
+    m: usize,
+    density: f32,
+    reference: f32,
+    i: u32,
+    centers: u32,
+    wet: u32,
+    b: OctreeBounds,
+    dst: &mut [u32],
+)
+    requires { ⌜ (m * 3 ≤ length (now waters)) × (m ≤ 65536) × (centers ≤ 65536) × (wet ≤ 65536) × (length (now dst) ≡ 8) ⌝ }
+    ensures { λ _. ⌜ now (dst .exit) ≡ leafWords cell density reference (now (waters .entry)) m i centers wet b ⌝ }
+{
+    let volume = cell::volume(b.extent);
+    let shell = leaf::shell_waters(cell, b, waters, m);
+    let own = leaf::occupancy_of(wet as usize, density * volume);
+    let around = leaf::occupancy_of(shell, density * cell::volume(leaf::expanded(cell, b)));
+    let score = leaf::partition_score(volume, reference, centers as usize);
+    put_words(
+        dst,
+        i,
+        centers,
+        wet,
+        leaf::occupancy_word(own),
+        word(shell),
+        leaf::occupancy_word(around),
+        numbers::class::to_bits32(score),
+    );
+}
+
+// Writes node i as leaf k of the table.
+fn put_leaf(
+    cell: Cell,
+    waters: &[f32],
+    m: usize,
+    density: f32,
+    reference: f32,
+    records: &[u32],
+    boxes: &[f32],
+    i: usize,
+    leaves: &mut [u32],
+    k: usize,
+)
+    requires { ⌜ (m * 3 ≤ length (now waters)) × (m ≤ 65536) ⌝ }
+    requires { ⌜ (i * 8 + 8 ≤ length (now records)) × (i * 6 + 6 ≤ length (now boxes)) × (i < 2 ^ 32) × (k * 8 + 8 ≤ length (now leaves)) ⌝ }
+    requires { ⌜ (getD (now records) (i * 8 + 2) 0 ≤ 65536) × (getD (now records) (i * 8 + 4) 0 ≤ 65536) ⌝ }
+    ensures { λ _. ⌜ now (leaves .exit) ≡ placed (k * 8) (nodeWords cell density reference (now (waters .entry)) m i (nodeAt (now (records .entry)) (now (boxes .entry)) i)) (now (leaves .entry)) ⌝ }
+{
+    put_row(
+        cell,
+        waters,
+        m,
+        density,
+        reference,
+        word(i),
+        records[i * 8 + 2],
+        records[i * 8 + 4],
+        read_box(boxes, i),
+        &mut leaves[k * 8..k * 8 + 8],
+    );
+}
+
+// Writes the leaf table of the first n nodes, over m wrapped waters.
+pub fn put_leaves(
+    cell: Cell,
+    waters: &[f32],
+    m: usize,
+    density: f32,
+    reference: f32,
+    records: &[u32],
+    boxes: &[f32],
+    n: usize,
+    leaves: &mut [u32],
+) -> Counts
+    requires { ⌜ (m * 3 ≤ length (now waters)) × (m ≤ 65536) ⌝ }
+    requires { ⌜ (n * 8 ≤ length (now records)) × (n * 6 ≤ length (now boxes)) × (n * 8 ≤ length (now leaves)) × (n < 2 ^ 32) ⌝ }
+    requires { ⌜ ((k : ℕ) → k < n → (getD (now records) (k * 8 + 2) 0 ≤ 65536) × (getD (now records) (k * 8 + 4) 0 ≤ 65536)) ⌝ }
+    ensures reported { λ r. ⌜ r .reported ≡ reportedLeaves (nodesFrom (now (records .entry)) (now (boxes .entry)) n 0) ⌝ }
+    ensures dry { λ r. ⌜ r .dry ≡ dryLeaves (nodesFrom (now (records .entry)) (now (boxes .entry)) n 0) ⌝ }
+    ensures table { λ r. ⌜ now (leaves .exit) ≡ over (leavesFrom cell density reference (now (waters .entry)) m 0 (nodesFrom (now (records .entry)) (now (boxes .entry)) n 0)) (now (leaves .entry)) ⌝ }
+{
+    let mut reported = 0;
+    let mut dry = 0;
+    let mut i = 0;
+    while i < n {
+        if is_reported(records, i) {
+            put_leaf(
+                cell,
+                waters,
+                m,
+                density,
+                reference,
+                records,
+                boxes,
+                i,
+                leaves,
+                reported,
+            );
+            dry += dry_bit(records, i);
+            reported += 1;
+        }
+        i += 1;
+    }
+    Counts {
+        reported: reported,
+        dry: dry,
+    }
+}
+
+pub fn clear(leaves: &mut [u32])
+    ensures { λ _. ⌜ now (leaves .exit) ≡ replicate (length (now (leaves .entry))) 0 ⌝ }
+{
+    let mut i = 0;
+    while i < leaves.len() {
+        leaves[i] = 0;
+        i += 1;
+    }
+}

@@ -1,0 +1,3 @@
+-- The pick lists: when they are sound, and what every call on them refuses first.
+pub mod Sound
+pub mod Input

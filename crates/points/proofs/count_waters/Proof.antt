@@ -1,0 +1,63 @@
+-- `points::count_waters` meets its contract. The loop's invariant (`Counting`): of the waters before k, m are finite. Measure: n - k.
+-- Assumes nothing.
+use mathlib.Core.Path.{sym, ap, _∙_}
+use mathlib.Core.Logic.{⊎-elim}
+use Prim.Native.Nat.{_-_}
+use borrow.Author.Needs.{needs}
+use Rattle.cell.specs.Cell.{finitePoint}
+use Rattle.points.proofs.WaterList.{Counting, counting-first, counting-finite, counting-other, counting-last}
+use Rattle.points.proofs.count_waters.Statement.{statement}
+use Rattle.points.proofs.count_waters.Tie as tie
+
+abbrev Inv-loop : tie.InvT-loop
+Inv-loop waters n m₀ k₀ m k = Counting waters k m
+
+abbrev μ-loop : tie.MeasureT-loop
+μ-loop waters n m₀ k₀ m k = n - k
+
+loop-holds : tie.Need-loop-holds Inv-loop μ-loop
+loop-holds c = counting-first
+
+point-requires : tie.Need-point-requires Inv-loop μ-loop
+point-requires c κs = search needs
+
+is-finite-requires : tie.Need-is-finite-requires Inv-loop μ-loop
+is-finite-requires c κs = search needs
+
+add-m : tie.Need-add-m Inv-loop μ-loop
+add-m c = search needs
+
+add-k : tie.Need-add-k Inv-loop μ-loop
+add-k c = search needs
+
+loop-less : tie.Need-loop-less Inv-loop μ-loop
+loop-less c = search needs
+
+loop-again : tie.Need-loop-again Inv-loop μ-loop
+loop-again c =
+    let at = c .before .before .before .before in
+    let less = c .before .before .before .loop-test .taken in
+    let p = c .before .before .point .ensures in
+    let test = ap finitePoint (sym p) ∙ sym (c .before .is-finite .ensures) in
+    ⊎-elim
+    (λ w. rw (w .1) (counting-finite less (test ∙ w .0 .taken) (at .loop .inv)))
+    (λ w. rw (w .1) (counting-other less (test ∙ w .0 .left) (at .loop .inv)))
+    (c .if1 .came)
+
+returns : tie.Need-returns Inv-loop μ-loop
+returns c = counting-last (c .loop-test .left) (c .before .loop .inv)
+
+pub count-waters-spec : {M : Type 1} → statement M
+count-waters-spec =
+    tie.close
+    (tie.spec
+    Inv-loop
+    μ-loop
+    loop-holds
+    point-requires
+    is-finite-requires
+    add-m
+    add-k
+    loop-less
+    loop-again
+    returns)

@@ -1,0 +1,2 @@
+-- The points that a tree is built over.
+pub mod Points

@@ -1,0 +1,35 @@
+-- `roots::even_root` meets its contract: the root of m cut to p + 1 digits gives both fields (`RootCut`). Assumes nothing.
+use native.Mathlib.Omega.{arith}
+use borrow.Author.Needs.{needs}
+use Rattle.floats.proofs.RootCut.{even-exponent, even-digits, even-lt}
+use Rattle.roots.proofs.even_root.Statement.{statement}
+use Rattle.roots.proofs.even_root.Tie as tie
+
+add-root : tie.Need-add-root
+add-root c = search needs
+
+root-requires : tie.Need-root-requires
+root-requires c κs = search needs
+
+add-t6 : tie.Need-add-t6
+add-t6 c = search needs
+
+sub-t7 : tie.Need-sub-t7
+sub-t7 c = search needs
+
+add-t8 : tie.Need-add-t8
+add-t8 c =
+    let s = c .before in
+    let h = s .pre in
+    omega (arith, even-lt (s .args .p) (s .args .m) (s .args .t) (c .root .result) (h .0) (h .1) (h .2) (h .3) (h .5) (c .root .ensures))
+
+returns : tie.Need-returns
+returns c =
+    let s = c .before in
+    let h = s .pre in (
+      even-exponent (s .args .p) (s .args .m) (s .args .t) (c .root .result) (h .0) (h .1) (h .2) (h .3) (h .5) (c .root .ensures),
+      even-digits (s .args .p) (s .args .m) (s .args .t) (c .root .result) (h .0) (h .1) (h .2) (h .3) (h .5) (c .root .ensures),
+    )
+
+pub even-root-spec : {M : Type 1} → statement M
+even-root-spec = tie.close (tie.spec add-root root-requires add-t6 sub-t7 add-t8 returns)

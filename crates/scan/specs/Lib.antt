@@ -1,0 +1,2 @@
+-- The scan of every row.
+pub mod Scan

@@ -1,0 +1,105 @@
+// The unchecked scan of every row (document 01, 'Whole frame'): Open and the rows in rising order, for input that nothing refuses, with one box table
+// for all rows. What a row adds is crate `clusters`' own.
+ghost use mathlib.Core.Path.{_≡_};
+ghost use mathlib.Core.Bool.{true};
+ghost use mathlib.Core.List.{[]};
+ghost use Prim.Native.Nat.{_*_, _<_, _≤_};
+ghost use lib.ListN.{length};
+ghost use Rattle.cell.specs.Cell.{extentOf};
+ghost use Rattle.cell.specs.Refusals.{firstRefusal};
+ghost use Rattle.pick_lists.specs.Sound.{copiesIn};
+ghost use Rattle.pick_lists.specs.Input.{inputRefusals};
+ghost use Rattle.touch.specs.Touch.{copiesTouch};
+ghost use Rattle.gates.specs.Gates.{gatesOf};
+ghost use Rattle.box_table.specs.BoxTable.{Boxes};
+ghost use Rattle.cluster_table.specs.Table.{words, soundTable};
+ghost use Rattle.clusters.specs.Answers.{rowTable};
+ghost use Rattle.scan.specs.Scan.{scanned};
+use cell::Cell;
+use gates::Gates;
+
+// Row i as `clusters::scan_row`, given the cell's gates and the box table; `flags` is scratch.
+fn scan_boxed(
+    cell: Cell,
+    g: Gates,
+    solutes: &[f32],
+    starts: &[u32],
+    picks: &[u32],
+    room: &[f32],
+    flags: &mut [u32],
+    table: &mut [u32],
+    i: usize,
+)
+    requires { ⌜ firstRefusal (inputRefusals cell (now solutes) [] (now starts) (now picks)) ≡ 0 ⌝ }
+    requires { ⌜ (words (copiesIn (now starts)) ≤ length (now table)) × (soundTable (copiesIn (now starts)) (now table) ≡ true) × (i < copiesIn (now starts)) ⌝ }
+    requires { ⌜ (g ≡ gatesOf (extentOf cell)) × (6 * copiesIn (now starts) ≤ length (now room)) × (copiesIn (now starts) ≤ length (now flags)) ⌝ }
+    requires { ⌜ Boxes (now solutes) (now starts) (now picks) (now room) ⌝ }
+    ensures { λ _. ⌜ now (table .exit) ≡ rowTable (copiesTouch cell (now (solutes .entry)) (now (starts .entry)) (now (picks .entry))) (copiesIn (now (starts .entry))) i (now (table .entry)) ⌝ }
+{
+    let n = starts.len() - 1;
+    box_table::mark_apart(g, room, flags, n, i);
+    let mut k = i + 1;
+    while k < n {
+        if box_table::marked_touch(cell, g, solutes, starts, picks, room, flags, i, k) {
+            cluster_table::add_contact(table, n, i, k);
+        }
+        k += 1;
+    }
+    cluster_table::set_mark(table, n, i);
+}
+
+// Opens the table and scans every row in rising order, with the box table.
+fn scan_rows(
+    cell: Cell,
+    g: Gates,
+    solutes: &[f32],
+    starts: &[u32],
+    picks: &[u32],
+    room: &[f32],
+    flags: &mut [u32],
+    table: &mut [u32],
+)
+    requires { ⌜ firstRefusal (inputRefusals cell (now solutes) [] (now starts) (now picks)) ≡ 0 ⌝ }
+    requires { ⌜ words (copiesIn (now starts)) ≤ length (now table) ⌝ }
+    requires { ⌜ (g ≡ gatesOf (extentOf cell)) × (6 * copiesIn (now starts) ≤ length (now room)) × (copiesIn (now starts) ≤ length (now flags)) ⌝ }
+    requires { ⌜ Boxes (now solutes) (now starts) (now picks) (now room) ⌝ }
+    ensures { λ _. ⌜ now (table .exit) ≡ scanned cell (now (solutes .entry)) (now (starts .entry)) (now (picks .entry)) (now (table .entry)) ⌝ }
+{
+    let copies = starts.len() - 1;
+    cluster_table::open_table(table, copies);
+    let mut i = 0;
+    while i < copies {
+        scan_boxed(cell, g, solutes, starts, picks, room, flags, table, i);
+        i += 1;
+    }
+}
+
+// Local arrays are made by functions of their own: a function that has so long a list in its own code is costly to prove.
+fn box_room() -> [f32; 24576] {
+    [0f32; 24576]
+}
+
+fn flag_room() -> [u32; 4096] {
+    [0u32; 4096]
+}
+
+// Opens the table and scans every row in rising order, for input that nothing refuses: the core of the whole frame. The box table is made once.
+pub fn scan_all(cell: Cell, solutes: &[f32], starts: &[u32], picks: &[u32], table: &mut [u32])
+    requires { ⌜ firstRefusal (inputRefusals cell (now solutes) [] (now starts) (now picks)) ≡ 0 ⌝ }
+    requires { ⌜ words (copiesIn (now starts)) ≤ length (now table) ⌝ }
+    ensures { λ _. ⌜ now (table .exit) ≡ scanned cell (now (solutes .entry)) (now (starts .entry)) (now (picks .entry)) (now (table .entry)) ⌝ }
+{
+    let mut room = box_room();
+    let mut flags = flag_room();
+    box_table::fill_boxes(solutes, starts, picks, &mut room);
+    scan_rows(
+        cell,
+        gates::gates_of(cell),
+        solutes,
+        starts,
+        picks,
+        &room,
+        &mut flags,
+        table,
+    );
+}

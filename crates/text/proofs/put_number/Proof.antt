@@ -1,0 +1,48 @@
+-- `text::put_number` meets its contract: the digits that n has, and the byte after them. Assumes nothing.
+use native.Mathlib.Omega.{arith}
+use borrow.Author.Needs.{needs}
+use Rattle.text.specs.Text.{places, decimal}
+use Rattle.text.proofs.Writing.{digits-after, length-after}
+use Rattle.text.proofs.put_number.Statement.{statement}
+use Rattle.text.proofs.put_number.Tie as tie
+
+decimal-places-requires : tie.Need-decimal-places-requires
+decimal-places-requires c κs = search needs
+
+put-digits-requires : tie.Need-put-digits-requires
+unfolding decimal
+put-digits-requires c κs =
+    let a = c .before .before .before .args in
+    omega (arith, length-after 10 (places (a .n)) (a .n) (a .after))
+
+slice-write-out : tie.Need-slice-write-out
+unfolding decimal
+slice-write-out c =
+    let a = c .before .before .before .before .before .before .args in
+    omega (arith, length-after 10 (places (a .n)) (a .n) (a .after))
+
+add-result : tie.Need-add-result
+add-result c = search needs
+
+same-length : tie.Need-same-length
+same-length c = search needs
+
+returns : tie.Need-returns
+unfolding decimal
+returns c =
+    let a = c .before .before .before .before .before .before .args in
+    let k = c .before .before .before .before .decimal-places .ensures .0 in
+    let d = c .before .before .put-digits .ensures in
+    let n = length-after 10 (places (a .n)) (a .n) (a .after) in
+    (omega (arith, n), rw (d .0, d .1, k) (digits-after 10 (places (a .n)) (a .n) (a .after) (a .at) (a .out .now) (omega (arith, n))))
+
+pub put-number-spec : {M : Type 1} → statement M
+put-number-spec =
+    tie.close
+    (tie.spec
+    decimal-places-requires
+    put-digits-requires
+    slice-write-out
+    add-result
+    same-length
+    returns)

@@ -1,0 +1,2 @@
+-- Words, numbers and floats as bytes.
+pub mod Text
