@@ -96,7 +96,9 @@ pub fn put_centers(cell: Cell, xs: &[f32], starts: &[u32], picks: &[u32], center
 }
 
 // Room for the centers of a frame, as local array of a caller: a function that has so long a list in its own code is costly to prove.
-pub fn center_room() -> [f32; 12288]
+pub type CenterRoom = [f32; 12288];
+
+pub fn center_room() -> CenterRoom
     ensures { λ r. ⌜ r ≡ replicate 12288 (ofBits binary32 0) ⌝ }
 {
     [0f32; 12288]

@@ -76,7 +76,9 @@ pub fn count_waters(waters: &[f32]) -> usize
 }
 
 // Room for the waters of a frame, as local array of a caller: a function that has so long a list in its own code is costly to prove.
-pub fn water_room() -> [f32; 196608]
+pub type WaterRoom = [f32; 196608];
+
+pub fn water_room() -> WaterRoom
     ensures { λ r. ⌜ r ≡ replicate 196608 (ofBits binary32 0) ⌝ }
 {
     [0f32; 196608]
