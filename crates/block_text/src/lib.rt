@@ -14,7 +14,7 @@ use listing::Listed;
 // number has twenty digits.
 pub const TEXT_ROOM: usize = 162 + 2048 * 116;
 
-// Local arrays are made by functions of their own: a function that has so long a list in its own code is costly to prove.
+// Long local arrays (docs/DECISIONS.md, 'The gate').
 fn index_room() -> [u32; 14988] {
     [0u32; 14988]
 }

@@ -95,7 +95,7 @@ pub fn put_centers(cell: Cell, xs: &[f32], starts: &[u32], picks: &[u32], center
     }
 }
 
-// Room for the centers of a frame, as local array of a caller: a function that has so long a list in its own code is costly to prove.
+// Room for the centers of a frame, a local array of its caller (docs/DECISIONS.md, 'The gate').
 pub type CenterRoom = [f32; 12288];
 
 pub fn center_room() -> CenterRoom

@@ -23,7 +23,7 @@ fn put_input(input: &[u8], n: usize, out: &mut [u8; TEXT_ROOM]) -> usize
     block_text::put_text(&input[..n], out)
 }
 
-// Local arrays are made by functions of their own: a function that has so long a list in its own code is costly to prove.
+// Long local arrays (docs/DECISIONS.md, 'The gate').
 fn input_room() -> [u8; INPUT_ROOM] {
     [0u8; INPUT_ROOM]
 }

@@ -11,7 +11,7 @@ use cell::Cell;
 use listing::Listed;
 use mixing::FrameAnswer;
 
-// Local arrays are made by functions of their own: a function that has so long a list in its own code is costly to prove.
+// Long local arrays (docs/DECISIONS.md, 'The gate').
 fn start_room() -> [u32; 4097]
     ensures { λ r. ⌜ r ≡ replicate 4097 0 ⌝ }
 {

@@ -1,10 +1,9 @@
 // The leaf table (document 01, 'Leaf report'): eight words for each leaf with centers, from the node tables of a tree.
 ghost use mathlib.Core.Path.{_≡_};
 ghost use mathlib.Core.Bool.{_&&_, cond};
-ghost use mathlib.Core.List.{[], _∷_};
 ghost use Prim.Native.Nat.{ℕ, _+_, _*_, _^_, _≤_, _<_};
 ghost use lib.Dec.{eqb, ltb};
-ghost use lib.ListN.{length, getD, replicate};
+ghost use lib.ListN.{length, getD};
 ghost use Rattle.cell.specs.Cell.{pointAt};
 ghost use Rattle.cell.specs.Tables.{placed, over};
 ghost use Rattle.bounds.specs.Bounds.{boxBetween};
@@ -17,13 +16,6 @@ use cell::Cell;
 pub struct Counts {
     pub reported: usize,
     pub dry: usize,
-}
-
-fn word(x: usize) -> u32
-    requires { ⌜ x < 2 ^ 32 ⌝ }
-    ensures { λ r. ⌜ r ≡ x ⌝ }
-{
-    x as u32
 }
 
 // The box of node i.
@@ -54,29 +46,6 @@ fn dry_bit(records: &[u32], i: usize) -> usize
     if records[i * 8 + 4] == 0 { 1 } else { 0 }
 }
 
-fn put_words(
-    dst: &mut [u32],
-    node: u32,
-    centers: u32,
-    wet: u32,
-    own: u32,
-    shell: u32,
-    around: u32,
-    score: u32,
-)
-    requires { ⌜ length (now dst) ≡ 8 ⌝ }
-    ensures { λ _. ⌜ now (dst .exit) ≡ node ∷ centers ∷ wet ∷ own ∷ shell ∷ around ∷ score ∷ 0 ∷ [] ⌝ }
-{
-    dst[0] = node;
-    dst[1] = centers;
-    dst[2] = wet;
-    dst[3] = own;
-    dst[4] = shell;
-    dst[5] = around;
-    dst[6] = score;
-    dst[7] = 0;
-}
-
 // Writes the eight words of a leaf: node i, with so many centers and waters in its box b.
 fn put_row(
     cell: Cell,
@@ -98,13 +67,13 @@ fn put_row(
     let own = leaf::occupancy_of(wet as usize, density * volume);
     let around = leaf::occupancy_of(shell, density * cell::volume(leaf::expanded(cell, b)));
     let score = leaf::partition_score(volume, reference, centers as usize);
-    put_words(
+    nodes::put_record(
         dst,
         i,
         centers,
         wet,
         leaf::occupancy_word(own),
-        word(shell),
+        nodes::word(shell),
         leaf::occupancy_word(around),
         numbers::class::to_bits32(score),
     );
@@ -134,7 +103,7 @@ fn put_leaf(
         m,
         density,
         reference,
-        word(i),
+        nodes::word(i),
         records[i * 8 + 2],
         records[i * 8 + 4],
         read_box(boxes, i),
@@ -186,15 +155,5 @@ pub fn put_leaves(
     Counts {
         reported: reported,
         dry: dry,
-    }
-}
-
-pub fn clear(leaves: &mut [u32])
-    ensures { λ _. ⌜ now (leaves .exit) ≡ replicate (length (now (leaves .entry))) 0 ⌝ }
-{
-    let mut i = 0;
-    while i < leaves.len() {
-        leaves[i] = 0;
-        i += 1;
     }
 }

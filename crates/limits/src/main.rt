@@ -60,7 +60,7 @@ fn row(i: usize) -> Case
     CASES[i]
 }
 
-// Local arrays are made by functions of their own: a function that has so long a list in its own code is costly to prove.
+// Long local arrays (docs/DECISIONS.md, 'The gate').
 fn coordinate_room() -> [f32; 196611] {
     [0f32; 196611]
 }

@@ -9,33 +9,26 @@ ghost use Rattle.frame_limits.specs.Limits.{maxAtoms};
 ghost use Rattle.cell.specs.Tables.{placed};
 ghost use Rattle.nodes.specs.Nodes.{cornersOf, firstNumbers, NodeFits};
 
-fn word(x: usize) -> u32
+// A number as a word.
+pub fn word(x: usize) -> u32
     requires { ⌜ x < 2 ^ 32 ⌝ }
     ensures { λ r. ⌜ r ≡ x ⌝ }
 {
     x as u32
 }
 
-fn put_record(
-    dst: &mut [u32],
-    depth: u32,
-    fc: u32,
-    nc: u32,
-    fw: u32,
-    nw: u32,
-    children: u32,
-    after: u32,
-)
+// Writes seven words and a 0: the record of a node, or of a leaf.
+pub fn put_record(dst: &mut [u32], a: u32, b: u32, c: u32, d: u32, e: u32, f: u32, g: u32)
     requires { ⌜ length (now dst) ≡ 8 ⌝ }
-    ensures { λ _. ⌜ now (dst .exit) ≡ depth ∷ fc ∷ nc ∷ fw ∷ nw ∷ children ∷ after ∷ 0 ∷ [] ⌝ }
+    ensures { λ _. ⌜ now (dst .exit) ≡ a ∷ b ∷ c ∷ d ∷ e ∷ f ∷ g ∷ 0 ∷ [] ⌝ }
 {
-    dst[0] = depth;
-    dst[1] = fc;
-    dst[2] = nc;
-    dst[3] = fw;
-    dst[4] = nw;
-    dst[5] = children;
-    dst[6] = after;
+    dst[0] = a;
+    dst[1] = b;
+    dst[2] = c;
+    dst[3] = d;
+    dst[4] = e;
+    dst[5] = f;
+    dst[6] = g;
     dst[7] = 0;
 }
 
@@ -94,7 +87,8 @@ pub fn count_up(s: &mut [u32])
     }
 }
 
-fn clear_words(s: &mut [u32])
+// Writes 0 to every entry.
+pub fn clear_words(s: &mut [u32])
     ensures { λ _. ⌜ now (s .exit) ≡ replicate (length (now (s .entry))) 0 ⌝ }
 {
     let mut i = 0;

@@ -75,7 +75,7 @@ pub fn count_waters(waters: &[f32]) -> usize
     m
 }
 
-// Room for the waters of a frame, as local array of a caller: a function that has so long a list in its own code is costly to prove.
+// Room for the waters of a frame, a local array of its caller (docs/DECISIONS.md, 'The gate').
 pub type WaterRoom = [f32; 196608];
 
 pub fn water_room() -> WaterRoom

@@ -46,7 +46,7 @@ fn equal(a: &[u8], b: &[u8]) -> bool {
     true
 }
 
-// Local arrays are made by functions of their own: a function that has so long a list in its own code is costly to prove.
+// Long local arrays (docs/DECISIONS.md, 'The gate').
 fn text_room() -> [u8; TEXT_ROOM] {
     [0u8; TEXT_ROOM]
 }

@@ -58,7 +58,7 @@ pub fn report_of(
         boxes,
         limit,
     ) else {
-        leaf_table::clear(leaves);
+        nodes::clear_words(leaves);
         return Reported::Refused(13);
     };
     let density = leaf::density(cell, m);

@@ -74,7 +74,7 @@ fn scan_rows(
     }
 }
 
-// Local arrays are made by functions of their own: a function that has so long a list in its own code is costly to prove.
+// Long local arrays (docs/DECISIONS.md, 'The gate').
 fn box_room() -> [f32; 24576] {
     [0f32; 24576]
 }

@@ -168,7 +168,7 @@ fn scan(
     show(name, table, n);
 }
 
-// Local arrays are made by functions of their own: a function that has so long a list in its own code is costly to prove.
+// Long local arrays (docs/DECISIONS.md, 'The gate').
 fn coordinate_room() -> [f32; 12288] {
     [0f32; 12288]
 }

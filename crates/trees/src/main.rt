@@ -57,66 +57,66 @@ fn show_report(a: Reported) {
     }
 }
 
-// Tree of n copies and m waters, all in one place, in the cell 0..h, with room for r records.
-fn run_tree(h: f32, n: usize, m: usize, r: usize)
-    requires { ⌜ (n ≤ 2) × ((m ≤ 1) × (r ≤ 15)) ⌝ }
-{
-    let place = [3.0f32; 6];
-    let water = [3.0f32; 3];
-    let starts = [0u32, 1, 2];
-    let picks = [0u32, 1];
+// Tree, and then Report in the node tables that Tree has left.
+fn both(
+    cell: Cell,
+    solutes: &[f32],
+    waters: &[f32],
+    starts: &[u32],
+    picks: &[u32],
+    records: &mut [u32],
+    boxes: &mut [f32],
+) {
     let mut center_order = [0u32; 2];
     let mut water_order = [0u32; 2];
-    let mut records = [1u32; 120];
-    let mut boxes = [1f32; 90];
-    show_tree(tree::tree(
-        cube(h),
-        &place[..n * 3],
-        &water[..m * 3],
-        &starts[..n + 1],
-        &picks[..n],
-        &mut center_order,
-        &mut water_order,
-        &mut records[..r * 8],
-        &mut boxes,
-    ));
-}
-
-fn run_report(h: f32, n: usize, m: usize, r: usize)
-    requires { ⌜ (n ≤ 2) × ((m ≤ 1) × (r ≤ 15)) ⌝ }
-{
-    let place = [3.0f32; 6];
-    let water = [3.0f32; 3];
-    let starts = [0u32, 1, 2];
-    let picks = [0u32, 1];
-    let mut center_order = [0u32; 2];
-    let mut water_order = [0u32; 2];
-    let mut records = [1u32; 120];
-    let mut boxes = [1f32; 90];
     let mut leaves = [1u32; 120];
-    show_report(report::report(
-        cube(h),
-        &place[..n * 3],
-        &water[..m * 3],
-        &starts[..n + 1],
-        &picks[..n],
+    show_tree(tree::tree(
+        cell,
+        solutes,
+        waters,
+        starts,
+        picks,
         &mut center_order,
         &mut water_order,
-        &mut records[..r * 8],
-        &mut boxes,
+        records,
+        boxes,
+    ));
+    text(b"and ");
+    show_report(report::report(
+        cell,
+        solutes,
+        waters,
+        starts,
+        picks,
+        &mut center_order,
+        &mut water_order,
+        records,
+        boxes,
         &mut leaves,
     ));
 }
 
-// Tree and Report of such a frame.
+// Both on n copies and m waters, all in one place, in the cell 0..h, with room for r records.
 fn run(name: &[u8], h: f32, n: usize, m: usize, r: usize, expected: &[u8])
     requires { ⌜ (n ≤ 2) × ((m ≤ 1) × (r ≤ 15)) ⌝ }
 {
+    let place = [3.0f32; 6];
+    let water = [3.0f32; 3];
+    let starts = [0u32, 1, 2];
+    let picks = [0u32, 1];
+    let mut records = [1u32; 120];
+    let mut boxes = [1f32; 90];
     text(name);
     text(b": ");
-    run_tree(h, n, m, r);
-    text(b"and ");
-    run_report(h, n, m, r);
+    both(
+        cube(h),
+        &place[..n * 3],
+        &water[..m * 3],
+        &starts[..n + 1],
+        &picks[..n],
+        &mut records[..r * 8],
+        &mut boxes,
+    );
     text(b"expected ");
     text(expected);
     text(b"\n");

@@ -43,8 +43,8 @@ occupancy-word-requires-2 c κs = search needs
 to-bits32-requires : tie.Need-to-bits32-requires
 to-bits32-requires c κs = search needs
 
-put-words-requires : tie.Need-put-words-requires
-put-words-requires c κs = search needs
+put-record-requires : tie.Need-put-record-requires
+put-record-requires c κs = search needs
 
 same-length : tie.Need-same-length
 same-length c = search needs
@@ -61,7 +61,7 @@ returns c =
     let sides = score .before .before .volume2 .ensures ∙ ap volumeOf (score .before .before .before .expanded .ensures) in
     let around = score .before .occupancy-of2 .ensures ∙ ap₂ (λ (n : ℕ) (v : Float). occupancyOf n (mul binary32 (g .density) v)) (shell .shell-waters .ensures .0) sides in
     let part = score .partition-score .ensures ∙ ap (λ (v : Float). partitionScore v (g .reference) (g .centers)) volume in
-    words .put-words .ensures
+    words .put-record .ensures
     ∙ eight refl refl refl
     (words .before .before .before .before .occupancy-word .ensures ∙ ap occupancyWord own)
     (words .before .before .before .word .ensures ∙ shell .shell-waters .ensures .0)
@@ -83,6 +83,6 @@ put-row-spec =
     word-requires
     occupancy-word-requires-2
     to-bits32-requires
-    put-words-requires
+    put-record-requires
     same-length
     returns)

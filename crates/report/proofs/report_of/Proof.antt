@@ -109,8 +109,8 @@ enum-known-n c = search needs
 enum-told : tie.Need-enum-told
 enum-told c = search needs
 
-clear-requires : tie.Need-clear-requires
-clear-requires c κs = search needs
+clear-words-requires : tie.Need-clear-words-requires
+clear-words-requires c κs = search needs
 
 same-length : tie.Need-same-length
 same-length c = c .before .before .before .before .before .before .before .before .before .before .before .before .before .before .tree-of .kept .1 .1 .1 .1 .1 .1 .0
@@ -132,7 +132,7 @@ returns c =
     let st = c .before .before .before .before .before .before .before .before .before .before .before .before .before .before .before .before .before .before .before .before .before .before .before .before .before .before .before .before .before .before .before .before .before in
     let got = rw (c .before .before .before .before .enum-told .given .1) at (answered (c .before .before .before .before .before .before .before .before .before .before .before .before .before .before)) in
     let thirteen = built-told (inFrame st) (room st) Full (got .0) .0 in
-    let cleared = c .before .before .clear .ensures ∙ leaves-cleared (st .args .cell) (st .args .waters .now) (st .args .starts .now) (inFrame st .nodes) (st .args .leaves .now) in
+    let cleared = c .before .before .clear-words .ensures ∙ leaves-cleared (st .args .cell) (st .args .waters .now) (st .args .starts .now) (inFrame st .nodes) (st .args .leaves .now) in
     (answer-refused 13 _ (inFrame st .nodes) (λ h. omega arith) thirteen, (got .1 .0, (got .1 .1 .0, (got .1 .1 .1 .0, (got .1 .1 .1 .1, cleared)))))
 
 density-requires : tie.Need-density-requires
@@ -205,7 +205,7 @@ report-of-spec =
     tree-of-requires
     enum-known-n
     enum-told
-    clear-requires
+    clear-words-requires
     same-length
     same-length-2
     same-length-3
