@@ -6,8 +6,9 @@ use native.Mathlib.Numerals.{add-one}
 use native.Mathlib.Omega.{arith}
 use lib.ListN.{length, getD, take, drop, set, length-take, length-drop}
 use lib.Seq.{drop-cons, getD-take, take-nil}
-use Rattle.cell.proofs.Tables.{Filling, filling-first, filling-next, filling-last, length-none, placed-zero}
-use Rattle.cell.specs.Tables.{over}
+use Rattle.base.proofs.Filling.{Filling, filling-first, filling-next, filling-last}
+use Rattle.base.proofs.Placing.{length-none, placed-zero}
+use Rattle.base.specs.Tables.{over}
 use Rattle.answers.specs.Interface.{answersAfter}
 
 -- values that are equal one by one

@@ -5,7 +5,7 @@ use Prim.Native.Nat.{ℕ, _^_, _<_}
 use lib.ListN.{length, getD, take, replicate}
 use lib.Ieee.{Float, binary32, toBits}
 use Rattle.cell.specs.declared.Cell.{Cell}
-use Rattle.cell.specs.Tables.{over}
+use Rattle.base.specs.Tables.{over}
 use Rattle.mixing.specs.declared.FrameAnswer.{FrameAnswer}
 use Rattle.mixing.specs.declared.FrameAnswer.the-variants.{Refused, Blank, Mixed}
 

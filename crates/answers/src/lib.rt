@@ -1,5 +1,5 @@
 // How the C interface takes a cell and gives an answer: each enum by its number, and its values as words of the lent answers table.
-use cell::Answer;
+use base::Answer;
 use cell::Cell;
 use cell::Vec3;
 use clusters::Closing;
@@ -9,13 +9,14 @@ use report::Reported;
 use selection::Selected;
 use tree::TreeAnswer;
 ghost use mathlib.Core.Path.{_≡_};
-ghost use Prim.Native.Nat.{_^_, _<_, min};
-ghost use Rattle.cell.specs.Refusals.{numberOf};
-ghost use Rattle.selection.specs.Selection.{refusalOf, valuesOf};
-ghost use Rattle.clusters.specs.Answers.{closeNumber, fractionsOf};
-ghost use Rattle.dispersion.specs.Dispersion.{dispersedNumber, dispersedValues};
-ghost use Rattle.tree.specs.Tree.{treeNumber, treeAnswered};
-ghost use Rattle.report.specs.Report.{reportNumber, reportAnswered};
+ghost use Prim.Native.Nat.{_<_, min};
+ghost use Rattle.base.specs.Entry.{old};
+ghost use Rattle.base.specs.Refusals.{answerNumber};
+ghost use Rattle.selection.specs.Selection.{selectNumber, selectValues};
+ghost use Rattle.clusters.specs.Answers.{closeNumber, closeValues};
+ghost use Rattle.dispersion.specs.Dispersion.{dispersionNumber, dispersionValues};
+ghost use Rattle.tree.specs.Tree.{treeNumber, treeValues};
+ghost use Rattle.report.specs.Report.{reportNumber, reportValues};
 ghost use Rattle.mixing.specs.Frame.{frameNumber};
 ghost use Rattle.answers.specs.Interface.{cellOf, bitsOf, Small, answersAfter, frameCounts, frameWords};
 
@@ -37,17 +38,11 @@ pub fn cell(lx: f32, ly: f32, lz: f32, hx: f32, hy: f32, hz: f32) -> Cell
     }
 }
 
-fn shorter(a: usize, b: usize) -> usize
-    ensures { λ r. ⌜ r ≡ min a b ⌝ }
-{
-    if a < b { a } else { b }
-}
-
 // Writes as many of the values as the answers table holds.
 fn words(values: &[u32], answers: &mut [u32])
-    ensures { λ _. ⌜ now (answers .exit) ≡ answersAfter (now (values .entry)) (now (answers .entry)) ⌝ }
+    ensures { λ _. ⌜ now (answers .exit) ≡ answersAfter (old values) (old answers) ⌝ }
 {
-    let n = shorter(values.len(), answers.len());
+    let n = base::min(values.len(), answers.len());
     let mut i = 0;
     while i < n {
         answers[i] = values[i];
@@ -55,16 +50,9 @@ fn words(values: &[u32], answers: &mut [u32])
     }
 }
 
-fn word(x: usize) -> u32
-    requires { ⌜ x < 2 ^ 32 ⌝ }
-    ensures { λ r. ⌜ r ≡ x ⌝ }
-{
-    x as u32
-}
-
 // An answer that is acceptance alone.
 pub fn number(a: Answer) -> u32
-    ensures { λ r. ⌜ r ≡ numberOf a ⌝ }
+    ensures { λ r. ⌜ r ≡ answerNumber a ⌝ }
 {
     match a {
         Answer::Accepted => 0,
@@ -74,14 +62,14 @@ pub fn number(a: Answer) -> u32
 
 // Select's answer. Its counts fit a word, as do the other calls'.
 pub fn selected(a: Selected, answers: &mut [u32]) -> u32
-    requires { ⌜ Small (valuesOf a) ⌝ }
-    ensures number { λ r. ⌜ r ≡ refusalOf a ⌝ }
-    ensures answers_after { λ r. ⌜ now (answers .exit) ≡ answersAfter (valuesOf a) (now (answers .entry)) ⌝ }
+    requires { ⌜ Small (selectValues a) ⌝ }
+    ensures number { λ r. ⌜ r ≡ selectNumber a ⌝ }
+    ensures answers_after { λ r. ⌜ now (answers .exit) ≡ answersAfter (selectValues a) (old answers) ⌝ }
 {
     match a {
         Selected::Refused(n) => n,
         Selected::Kept { copies, picks } => {
-            let values = [word(copies), word(picks)];
+            let values = [base::word(copies), base::word(picks)];
             words(&values, answers);
             0
         }
@@ -91,7 +79,7 @@ pub fn selected(a: Selected, answers: &mut [u32]) -> u32
 // Close's answer.
 pub fn closing(a: Closing, answers: &mut [u32]) -> u32
     ensures number { λ r. ⌜ r ≡ closeNumber a ⌝ }
-    ensures answers_after { λ r. ⌜ now (answers .exit) ≡ answersAfter (bitsOf (fractionsOf a)) (now (answers .entry)) ⌝ }
+    ensures answers_after { λ r. ⌜ now (answers .exit) ≡ answersAfter (bitsOf (closeValues a)) (old answers) ⌝ }
 {
     match a {
         Closing::Refused(n) => n,
@@ -109,8 +97,8 @@ pub fn closing(a: Closing, answers: &mut [u32]) -> u32
 
 // Dispersion's answer.
 pub fn dispersed(a: Dispersed, answers: &mut [u32]) -> u32
-    ensures number { λ r. ⌜ r ≡ dispersedNumber a ⌝ }
-    ensures answers_after { λ r. ⌜ now (answers .exit) ≡ answersAfter (bitsOf (dispersedValues a)) (now (answers .entry)) ⌝ }
+    ensures number { λ r. ⌜ r ≡ dispersionNumber a ⌝ }
+    ensures answers_after { λ r. ⌜ now (answers .exit) ≡ answersAfter (bitsOf (dispersionValues a)) (old answers) ⌝ }
 {
     match a {
         Dispersed::Refused(n) => n,
@@ -124,14 +112,14 @@ pub fn dispersed(a: Dispersed, answers: &mut [u32]) -> u32
 
 // Tree's answer.
 pub fn tree(a: TreeAnswer, answers: &mut [u32]) -> u32
-    requires { ⌜ Small (treeAnswered a) ⌝ }
+    requires { ⌜ Small (treeValues a) ⌝ }
     ensures number { λ r. ⌜ r ≡ treeNumber a ⌝ }
-    ensures answers_after { λ r. ⌜ now (answers .exit) ≡ answersAfter (treeAnswered a) (now (answers .entry)) ⌝ }
+    ensures answers_after { λ r. ⌜ now (answers .exit) ≡ answersAfter (treeValues a) (old answers) ⌝ }
 {
     match a {
         TreeAnswer::Refused(n) => n,
         TreeAnswer::Nodes(nodes, depth) => {
-            let values = [word(nodes), word(depth)];
+            let values = [base::word(nodes), base::word(depth)];
             words(&values, answers);
             0
         }
@@ -140,14 +128,19 @@ pub fn tree(a: TreeAnswer, answers: &mut [u32]) -> u32
 
 // Report's answer.
 pub fn report(a: Reported, answers: &mut [u32]) -> u32
-    requires { ⌜ Small (reportAnswered a) ⌝ }
+    requires { ⌜ Small (reportValues a) ⌝ }
     ensures number { λ r. ⌜ r ≡ reportNumber a ⌝ }
-    ensures answers_after { λ r. ⌜ now (answers .exit) ≡ answersAfter (reportAnswered a) (now (answers .entry)) ⌝ }
+    ensures answers_after { λ r. ⌜ now (answers .exit) ≡ answersAfter (reportValues a) (old answers) ⌝ }
 {
     match a {
         Reported::Refused(n) => n,
         Reported::Leaves(nodes, depth, reported, dry) => {
-            let values = [word(nodes), word(depth), word(reported), word(dry)];
+            let values = [
+                base::word(nodes),
+                base::word(depth),
+                base::word(reported),
+                base::word(dry),
+            ];
             words(&values, answers);
             0
         }
@@ -158,7 +151,7 @@ pub fn report(a: Reported, answers: &mut [u32]) -> u32
 pub fn frame(a: FrameAnswer, answers: &mut [u32]) -> u32
     requires { ⌜ Small (frameCounts a) ⌝ }
     ensures number { λ r. ⌜ r ≡ frameNumber a ⌝ }
-    ensures answers_after { λ r. ⌜ now (answers .exit) ≡ answersAfter (frameWords a) (now (answers .entry)) ⌝ }
+    ensures answers_after { λ r. ⌜ now (answers .exit) ≡ answersAfter (frameWords a) (old answers) ⌝ }
 {
     match a {
         FrameAnswer::Refused(n) => n,
@@ -181,16 +174,16 @@ pub fn frame(a: FrameAnswer, answers: &mut [u32]) -> u32
         } => {
             let values = [
                 0,
-                word(copies),
-                word(picks),
+                base::word(copies),
+                base::word(picks),
                 numbers::class::to_bits32(largest),
                 numbers::class::to_bits32(contacted),
                 numbers::class::to_bits32(pair),
                 numbers::class::to_bits32(dispersion),
-                word(nodes),
-                word(depth),
-                word(leaves),
-                word(dry),
+                base::word(nodes),
+                base::word(depth),
+                base::word(leaves),
+                base::word(dry),
             ];
             words(&values, answers);
             0

@@ -8,27 +8,12 @@ use lib.Dec.{ltb}
 use lib.ListN.{length}
 use lib.Ieee.{Float}
 use borrow.Author.Tests.{ltb-false}
-use Rattle.cell.specs.Refusals.{firstRefusal}
-use Rattle.cell.specs.Tables.{over}
-use Rattle.cell.proofs.FirstRefusal.{neither}
+use Rattle.base.specs.Refusals.{firstRefusal}
+use Rattle.base.specs.Tables.{over}
+use Rattle.base.proofs.Tests.{neither}
 use Rattle.block.specs.declared.Block.{Block}
 use Rattle.block.specs.declared.Block.the-variants.{Refused, Frame}
-use Rattle.block.specs.Block.{
-  perCopy,
-  soluteAtoms,
-  indexCount,
-  waterCount,
-  isBlock,
-  cellOf,
-  indicesOf,
-  solutesOf,
-  watersOf,
-  blockRefusal,
-  blockAnswer,
-  indicesAfter,
-  solutesAfter,
-  watersAfter,
-}
+use Rattle.block.specs.Block.{perCopy, soluteAtoms, indexCount, waterCount, isBlock, blockCell, indicesOf, solutesOf, watersOf, blockRefusal, blockAnswer, indicesAfter, solutesAfter, watersAfter}
 
 -- the bytes, and the lent tables for indices, solutes and waters
 module _ (b is : List ℕ) (ss ws : List Float) where
@@ -74,6 +59,6 @@ module _ (b is : List ℕ) (ss ws : List Float) where
   unfolding blockAnswer indicesAfter solutesAfter watersAfter
   refused m e = (rw e, (rw e, (rw e, rw e)))
 
-  pub taken : blockRefusal b is ss ws ≡ 0 → Owed (Frame (perCopy b) (soluteAtoms b) (indexCount b) (waterCount b) (cellOf b)) (over (indicesOf b) is) (over (solutesOf b) ss) (over (watersOf b) ws)
+  pub taken : blockRefusal b is ss ws ≡ 0 → Owed (Frame (perCopy b) (soluteAtoms b) (indexCount b) (waterCount b) (blockCell b)) (over (indicesOf b) is) (over (solutesOf b) ss) (over (watersOf b) ws)
   unfolding blockAnswer indicesAfter solutesAfter watersAfter
   taken e = (rw e, (rw e, (rw e, rw e)))

@@ -7,26 +7,10 @@ use Prim.Native.Nat.{ℕ}
 use lib.ListN.{take, replicate}
 use lib.Ieee.{Float, nan, binary32, ofBits}
 use Rattle.cell.specs.declared.Vec3.{Vec3}
-use Rattle.cell.specs.Refusals.{firstRefusal}
-use Rattle.cell.specs.Tables.{over}
+use Rattle.base.specs.Refusals.{firstRefusal}
+use Rattle.base.specs.Tables.{over}
 use Rattle.block.specs.declared.Block.the-variants.{Refused, Frame}
-use Rattle.block.specs.Block.{
-  halfAt,
-  wordAt,
-  floatAt,
-  valuesFrom,
-  lengthWord,
-  isBlock,
-  cellOf,
-  indicesOf,
-  solutesOf,
-  watersOf,
-  blockRefusal,
-  blockAnswer,
-  indicesAfter,
-  solutesAfter,
-  watersAfter,
-}
+use Rattle.block.specs.Block.{halfAt, wordAt, floatAt, valuesFrom, lengthWord, isBlock, blockCell, indicesOf, solutesOf, watersOf, blockRefusal, blockAnswer, indicesAfter, solutesAfter, watersAfter}
 
 -- a word's four bytes, and those of the floats 2, 4, 6 and 16
 abbrev small : ℕ → List ℕ
@@ -95,7 +79,7 @@ unfolding
     floatAt
     valuesFrom
     isBlock
-    cellOf
+    blockCell
     indicesOf
     solutesOf
     watersOf

@@ -5,9 +5,10 @@ use mathlib.Core.List.{List, [], _∷_}
 use Prim.Native.Nat.{ℕ, zero, suc, _+_, _-_, _*_, _≤_, _<_}
 use native.Mathlib.Omega.{arith}
 use lib.ListN.{length, set}
-use Rattle.cell.specs.Tables.{over}
+use Rattle.base.specs.Tables.{over}
 use Rattle.block.specs.Block.{valuesFrom}
-use Rattle.cell.proofs.Tables.{Filling, filling-first, filling-next, filling-last, placed-zero}
+use Rattle.base.proofs.Filling.{Filling, filling-first, filling-next, filling-last}
+use Rattle.base.proofs.Placing.{placed-zero}
 
 module _ {A : Type 0} (f : ℕ → A) where
   pub length-values : (n p : ℕ) → length (valuesFrom f n p) ≡ n

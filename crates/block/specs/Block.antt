@@ -7,8 +7,8 @@ use lib.Dec.{ltb, leb, eqb}
 use lib.ListN.{length, getD}
 use lib.Ieee.{Float, binary32, ofBits}
 use Rattle.cell.specs.declared.Cell.{Cell}
-use Rattle.cell.specs.Refusals.{refuse, firstRefusal}
-use Rattle.cell.specs.Tables.{over, unlessRefused}
+use Rattle.base.specs.Refusals.{refuse, firstRefusal}
+use Rattle.base.specs.Tables.{over, unlessRefused}
 use Rattle.block.specs.declared.Block.{Block}
 use Rattle.block.specs.declared.Block.the-variants.{Refused, Frame}
 
@@ -71,8 +71,8 @@ isBlock b =
     && eqb (4 + lengthWord b) (length b)))
 
 -- ---- what follows the header: the cell, the indices, and the coordinates, x y z in turn
-unfoldable pub cellOf : List ℕ → Cell
-cellOf b =
+unfoldable pub blockCell : List ℕ → Cell
+blockCell b =
     record {
       low = record { x = floatAt b 22; y = floatAt b 26; z = floatAt b 30 };
       high = record { x = floatAt b 34; y = floatAt b 38; z = floatAt b 42 };
@@ -100,7 +100,7 @@ blockRefusal b is ss ws =
 unfoldable pub blockAnswer : List ℕ → List ℕ → List Float → List Float → Block
 blockAnswer b is ss ws =
     unlessRefused (blockRefusal b is ss ws)
-    (Frame (perCopy b) (soluteAtoms b) (indexCount b) (waterCount b) (cellOf b))
+    (Frame (perCopy b) (soluteAtoms b) (indexCount b) (waterCount b) (blockCell b))
     (Refused (blockRefusal b is ss ws))
 
 -- the three tables afterwards

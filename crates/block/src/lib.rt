@@ -3,8 +3,9 @@
 ghost use mathlib.Core.Path.{_≡_};
 ghost use Prim.Native.Nat.{_+_, _*_, _^_, _<_, _≤_};
 ghost use lib.ListN.{length, getD};
-ghost use Rattle.cell.specs.Tables.{over};
-ghost use Rattle.block.specs.Block.{halfAt, wordAt, floatAt, wordsFrom, floatsFrom, isBlock, cellOf, blockAnswer, indicesAfter, solutesAfter, watersAfter};
+ghost use Rattle.base.specs.Entry.{old};
+ghost use Rattle.base.specs.Tables.{over};
+ghost use Rattle.block.specs.Block.{halfAt, wordAt, floatAt, wordsFrom, floatsFrom, isBlock, blockCell, blockAnswer, indicesAfter, solutesAfter, watersAfter};
 use cell::Cell;
 use cell::Vec3;
 
@@ -29,7 +30,7 @@ pub enum Block {
 
 fn byte(bytes: &[u8], at: usize) -> u32
     requires { ⌜ at < length (now bytes) ⌝ }
-    ensures { λ r. ⌜ (r ≡ getD (now (bytes .entry)) at 0) × (r < 256) ⌝ }
+    ensures { λ r. ⌜ (r ≡ getD (old bytes) at 0) × (r < 256) ⌝ }
 {
     bytes[at] as u32
 }
@@ -37,14 +38,14 @@ fn byte(bytes: &[u8], at: usize) -> u32
 // The little-endian numbers of two and of four bytes.
 fn half(bytes: &[u8], at: usize) -> u32
     requires { ⌜ at + 2 ≤ length (now bytes) ⌝ }
-    ensures { λ r. ⌜ (r ≡ halfAt (now (bytes .entry)) at) × (r < 2 ^ 16) ⌝ }
+    ensures { λ r. ⌜ (r ≡ halfAt (old bytes) at) × (r < 2 ^ 16) ⌝ }
 {
     byte(bytes, at) + byte(bytes, at + 1) * 256
 }
 
 fn word(bytes: &[u8], at: usize) -> u32
     requires { ⌜ at + 4 ≤ length (now bytes) ⌝ }
-    ensures { λ r. ⌜ r ≡ wordAt (now (bytes .entry)) at ⌝ }
+    ensures { λ r. ⌜ r ≡ wordAt (old bytes) at ⌝ }
 {
     half(bytes, at) + half(bytes, at + 2) * 65536
 }
@@ -52,7 +53,7 @@ fn word(bytes: &[u8], at: usize) -> u32
 // A number of atoms, indices or waters.
 fn count(bytes: &[u8], at: usize) -> usize
     requires { ⌜ at + 4 ≤ length (now bytes) ⌝ }
-    ensures { λ r. ⌜ (r ≡ wordAt (now (bytes .entry)) at) × (r < 2 ^ 32) ⌝ }
+    ensures { λ r. ⌜ (r ≡ wordAt (old bytes) at) × (r < 2 ^ 32) ⌝ }
 {
     word(bytes, at) as usize
 }
@@ -60,14 +61,14 @@ fn count(bytes: &[u8], at: usize) -> usize
 // Every NaN's pattern arrives as a NaN.
 fn float(bytes: &[u8], at: usize) -> f32
     requires { ⌜ at + 4 ≤ length (now bytes) ⌝ }
-    ensures { λ r. ⌜ r ≡ floatAt (now (bytes .entry)) at ⌝ }
+    ensures { λ r. ⌜ r ≡ floatAt (old bytes) at ⌝ }
 {
     numbers::class::from_bits32(word(bytes, at))
 }
 
 // Whether the bytes are a block. The counts are below 2^32, so their products do not come round in a usize.
 fn is_block(bytes: &[u8]) -> bool
-    ensures { λ r. ⌜ r ≡ isBlock (now (bytes .entry)) ⌝ }
+    ensures { λ r. ⌜ r ≡ isBlock (old bytes) ⌝ }
 {
     if bytes.len() < HEADER {
         return false;
@@ -88,7 +89,7 @@ fn is_block(bytes: &[u8]) -> bool
 
 fn read_cell(bytes: &[u8]) -> Cell
     requires { ⌜ 46 ≤ length (now bytes) ⌝ }
-    ensures { λ r. ⌜ r ≡ cellOf (now (bytes .entry)) ⌝ }
+    ensures { λ r. ⌜ r ≡ blockCell (old bytes) ⌝ }
 {
     Cell {
         low: Vec3 {
@@ -107,7 +108,7 @@ fn read_cell(bytes: &[u8]) -> Cell
 // Reads n words from position `at` on into the table's start.
 fn read_words(bytes: &[u8], at: usize, n: usize, table: &mut [u32])
     requires { ⌜ (at + n * 4 ≤ length (now bytes)) × (n ≤ length (now table)) ⌝ }
-    ensures { λ _. ⌜ now (table .exit) ≡ over (wordsFrom (now (bytes .entry)) n at) (now (table .entry)) ⌝ }
+    ensures { λ _. ⌜ now (table .exit) ≡ over (wordsFrom (old bytes) n at) (old table) ⌝ }
 {
     let mut i = 0;
     let mut p = at;
@@ -121,7 +122,7 @@ fn read_words(bytes: &[u8], at: usize, n: usize, table: &mut [u32])
 // As read_words, of floats.
 fn read_floats(bytes: &[u8], at: usize, n: usize, table: &mut [f32])
     requires { ⌜ (at + n * 4 ≤ length (now bytes)) × (n ≤ length (now table)) ⌝ }
-    ensures { λ _. ⌜ now (table .exit) ≡ over (floatsFrom (now (bytes .entry)) n at) (now (table .entry)) ⌝ }
+    ensures { λ _. ⌜ now (table .exit) ≡ over (floatsFrom (old bytes) n at) (old table) ⌝ }
 {
     let mut i = 0;
     let mut p = at;
@@ -139,10 +140,10 @@ pub fn read_block(
     solutes: &mut [f32],
     waters: &mut [f32],
 ) -> Block
-    ensures answer { λ r. ⌜ r ≡ blockAnswer (now (bytes .entry)) (now (indices .entry)) (now (solutes .entry)) (now (waters .entry)) ⌝ }
-    ensures indices_after { λ r. ⌜ now (indices .exit) ≡ indicesAfter (now (bytes .entry)) (now (indices .entry)) (now (solutes .entry)) (now (waters .entry)) ⌝ }
-    ensures solutes_after { λ r. ⌜ now (solutes .exit) ≡ solutesAfter (now (bytes .entry)) (now (indices .entry)) (now (solutes .entry)) (now (waters .entry)) ⌝ }
-    ensures waters_after { λ r. ⌜ now (waters .exit) ≡ watersAfter (now (bytes .entry)) (now (indices .entry)) (now (solutes .entry)) (now (waters .entry)) ⌝ }
+    ensures answer { λ r. ⌜ r ≡ blockAnswer (old bytes) (old indices) (old solutes) (old waters) ⌝ }
+    ensures indices_after { λ r. ⌜ now (indices .exit) ≡ indicesAfter (old bytes) (old indices) (old solutes) (old waters) ⌝ }
+    ensures solutes_after { λ r. ⌜ now (solutes .exit) ≡ solutesAfter (old bytes) (old indices) (old solutes) (old waters) ⌝ }
+    ensures waters_after { λ r. ⌜ now (waters .exit) ≡ watersAfter (old bytes) (old indices) (old solutes) (old waters) ⌝ }
 {
     if !is_block(bytes) {
         return Block::Refused(14);

@@ -11,14 +11,14 @@ use lib.Seq.{take-at}
 use lib.Ieee.{Float}
 use borrow.Author.Tests.{leb-true, le-ltb}
 use Rattle.cell.specs.declared.Cell.{Cell}
-use Rattle.cell.specs.Tables.{over}
+use Rattle.base.specs.Tables.{over}
 use Rattle.block.specs.declared.Block.the-variants.{Refused, Frame}
-use Rattle.block.specs.Block.{maxBlock, isBlock, perCopy, soluteAtoms, indexCount, waterCount, cellOf, indicesOf, solutesOf, watersOf, wordAt, floatAt, blockRefusal}
+use Rattle.block.specs.Block.{maxBlock, isBlock, perCopy, soluteAtoms, indexCount, waterCount, blockCell, indicesOf, solutesOf, watersOf, wordAt, floatAt, blockRefusal}
 use Rattle.block.proofs.Header.{block-length}
 use Rattle.block.proofs.Reading.{length-values}
 use Rattle.block.proofs.Answers.{Owed, cramped, no-block, read, refused, taken}
 use Rattle.listing.specs.Listing.{refusedText}
-use Rattle.mixing.specs.Frame.{given}
+use Rattle.mixing.specs.Frame.{frameOf}
 use Rattle.frame_text.specs.Texts.{programTables, frameText}
 use Rattle.block_text.specs.Printed.{frameIn, printed}
 
@@ -34,7 +34,7 @@ pub record Read (b is : List ℕ) (ss ws : List Float) (per s k w : ℕ) (c : Ce
   pub s-is : s ≡ soluteAtoms b
   pub k-is : k ≡ indexCount b
   pub w-is : w ≡ waterCount b
-  pub cell-is : c ≡ cellOf b
+  pub cell-is : c ≡ blockCell b
   pub indices-are : is₁ ≡ over (indicesOf b) is
   pub solutes-are : ss₁ ≡ over (solutesOf b) ss
   pub waters-are : ws₁ ≡ over (watersOf b) ws
@@ -96,11 +96,11 @@ module _ {b is : List ℕ} {ss ws : List Float} {per s k w : ℕ} {c : Cell} {is
   unfolding over watersOf
   waters-read = rw (r .waters-are, r .w-is) (take-at (watersOf b) (drop (length (watersOf b)) ws) (waterCount b * 3) (length-values (floatAt b) (waterCount b * 3) _))
 
-  pub frame-read : given c (take (s * 3) ss₁) per (take k is₁) (take (w * 3) ws₁) ≡ frameIn b
+  pub frame-read : frameOf c (take (s * 3) ss₁) per (take k is₁) (take (w * 3) ws₁) ≡ frameIn b
   unfolding frameIn
   frame-read = rw (solutes-read, indices-read, waters-read, r .per-is, r .cell-is)
 
-  pub text-read : frameText (given c (take (s * 3) ss₁) per (take k is₁) (take (w * 3) ws₁)) programTables ≡ printed b
+  pub text-read : frameText (frameOf c (take (s * 3) ss₁) per (take k is₁) (take (w * 3) ws₁)) programTables ≡ printed b
   unfolding printed
   text-read = rw (frame-read, r .block)
 

@@ -14,21 +14,21 @@ use Rattle.listing.specs.Listing.{refusedText}
 use Rattle.listing.proofs.Lengths.{refused-few, listing-few}
 use Rattle.mixing.specs.declared.FrameAnswer.{FrameAnswer}
 use Rattle.mixing.specs.declared.FrameAnswer.the-variants.{Refused, Blank, Mixed}
-use Rattle.mixing.specs.Frame.{Frame, Tables, frameAnswer, tablesAfter}
+use Rattle.mixing.specs.Frame.{Frame, FrameTables, frameAnswer, frameAfter}
 use Rattle.mixing.proofs.Answered.{listed-leaves}
 use Rattle.frame_text.specs.Texts.{programTables, answerText, frameText}
 use Rattle.block_text.specs.Printed.{frameIn, printed, textRoom}
 
 -- ---- the text fits
-frame-fits : (f : Frame) (t : Tables) → length (t .leaves) ≡ 16384 → length (frameText f t) ≤ textRoom
+frame-fits : (f : Frame) (t : FrameTables) → length (t .leaves) ≡ 16384 → length (frameText f t) ≤ textRoom
 unfolding frameText
 frame-fits f t e = by-answer (frameAnswer f t) refl
   where
-    by-answer : (r : FrameAnswer) → r ≡ frameAnswer f t → length (answerText r (tablesAfter f t .leaves)) ≤ textRoom
+    by-answer : (r : FrameAnswer) → r ≡ frameAnswer f t → length (answerText r (frameAfter f t .leaves)) ≤ textRoom
     by-answer (Refused n) h = omega (arith, refused-few n)
     by-answer Blank h = omega arith
     by-answer (Mixed copies picks largest contacted pair dispersion nodes depth count dry) h =
-        omega (arith, listing-few copies largest contacted pair dispersion nodes depth (tablesAfter f t .leaves) count dry, listed-leaves f t h, e)
+        omega (arith, listing-few copies largest contacted pair dispersion nodes depth (frameAfter f t .leaves) count dry, listed-leaves f t h, e)
 
 pub printed-fits : (b : List ℕ) → length (printed b) ≤ textRoom
 unfolding printed programTables

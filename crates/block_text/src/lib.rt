@@ -4,7 +4,8 @@ ghost use mathlib.Core.Path.{_≡_};
 ghost use mathlib.Core.Bool.{false};
 ghost use Prim.Native.Nat.{_≤_};
 ghost use lib.ListN.{length};
-ghost use Rattle.cell.specs.Tables.{over};
+ghost use Rattle.base.specs.Entry.{old};
+ghost use Rattle.base.specs.Tables.{over};
 ghost use Rattle.listing.specs.Listing.{textAnswer, textAfter};
 ghost use Rattle.block_text.specs.Printed.{printed};
 use block::Block;
@@ -25,8 +26,8 @@ fn atom_room() -> [f32; 14988] {
 
 // The text of the bytes that were read: 7, or the bytes written.
 fn put_block(bytes: &[u8], out: &mut [u8]) -> Listed
-    ensures answer { λ r. ⌜ r ≡ textAnswer false (printed (now (bytes .entry))) (now (out .entry)) ⌝ }
-    ensures after { λ r. ⌜ now (out .exit) ≡ textAfter false (printed (now (bytes .entry))) (now (out .entry)) ⌝ }
+    ensures answer { λ r. ⌜ r ≡ textAnswer false (printed (old bytes)) (old out) ⌝ }
+    ensures after { λ r. ⌜ now (out .exit) ≡ textAfter false (printed (old bytes)) (old out) ⌝ }
 {
     let mut indices = index_room();
     let mut solutes = atom_room();
@@ -52,8 +53,8 @@ fn put_block(bytes: &[u8], out: &mut [u8]) -> Listed
 
 // Writes what is printed for the bytes that were read, and answers how many bytes that is: every text fits the buffer.
 pub fn put_text(bytes: &[u8], out: &mut [u8; TEXT_ROOM]) -> usize
-    ensures written { λ r. ⌜ (r ≡ length (printed (now (bytes .entry)))) × (r ≤ length (now (out .exit))) ⌝ }
-    ensures after { λ r. ⌜ now (out .exit) ≡ over (printed (now (bytes .entry))) (now (out .entry)) ⌝ }
+    ensures written { λ r. ⌜ (r ≡ length (printed (old bytes))) × (r ≤ length (now (out .exit))) ⌝ }
+    ensures after { λ r. ⌜ now (out .exit) ≡ over (printed (old bytes)) (old out) ⌝ }
 {
     match put_block(bytes, out) {
         Listed::Written(n) => n,

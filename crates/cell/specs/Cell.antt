@@ -6,7 +6,7 @@ use Prim.Native.Nat.{ℕ, _+_, _*_}
 use lib.ListN.{getD}
 use lib.Ieee.{Float, nan, binary32, add, sub, mul, div, lt, ofBits}
 use lib.Ieee.Scale.{finite}
-use Rattle.floats.specs.Whole.{floorOf, roundOf, nearZero}
+use Rattle.floats.specs.Whole.{floorOf, roundOf}
 use Rattle.cell.specs.declared.Vec3.{Vec3}
 use Rattle.cell.specs.declared.Cell.{Cell}
 
@@ -43,14 +43,6 @@ wrap c p = record { x = wrapAxis (p .x) (c .low .x) (extentOf c .x); y = wrapAxi
 unfoldable pub minImage : Vec3 → Vec3 → Vec3
 unfolding imageAxis
 minImage e d = record { x = imageAxis (d .x) (e .x); y = imageAxis (d .y) (e .y); z = imageAxis (d .z) (e .z) }
-
--- a separation counted in extents, d / extent, and whether it is near zero on all axes
-unfoldable pub inExtents : Vec3 → Vec3 → Vec3
-inExtents d e = record { x = div binary32 (d .x) (e .x); y = div binary32 (d .y) (e .y); z = div binary32 (d .z) (e .z) }
-
-unfoldable pub nearAll : Vec3 → Bool
-unfolding nearZero
-nearAll q = nearZero (q .x) && (nearZero (q .y) && nearZero (q .z))
 
 -- x * x + y * y + z * z
 unfoldable pub squared : Vec3 → Float

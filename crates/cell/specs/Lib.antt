@@ -1,4 +1,4 @@
--- The cell of a frame, the order of refusals, and tables after a call.
+-- The cell of a frame.
 pub mod Cell
-pub mod Tables
-pub mod Refusals
+-- what only contracts of inner functions cite
+pub mod Inner

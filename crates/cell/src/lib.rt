@@ -5,8 +5,10 @@ ghost use mathlib.Core.Bool.{true};
 ghost use Prim.Native.Nat.{_+_, _*_, _<_};
 ghost use lib.ListN.{length};
 ghost use lib.Ieee.{binary32, div};
-ghost use Rattle.floats.specs.Whole.{nearZero};
-ghost use Rattle.cell.specs.Cell.{wrapAxis, imageAxis, validAxis, extentOf, valid, wrap as wrapOf, minImage, inExtents, nearAll, squared, minus, distance2, volumeOf, pointAt, finitePoint};
+ghost use Rattle.base.specs.Entry.{old};
+ghost use Rattle.floats.specs.Inner.{nearZero};
+ghost use Rattle.cell.specs.Cell.{wrapAxis, imageAxis, validAxis, extentOf, valid, wrap as wrapOf, minImage, squared, minus, distance2, volumeOf, pointAt, finitePoint};
+ghost use Rattle.cell.specs.Inner.{inExtents, nearAll};
 
 // f32 EPSILON, 2^-23: an extent at or below it makes a cell not valid.
 pub const EPSILON: f32 = 1.1920929e-7;
@@ -20,12 +22,6 @@ pub struct Vec3 {
 pub struct Cell {
     pub low: Vec3,
     pub high: Vec3,
-}
-
-// What a call answers that writes tables alone: acceptance, or a refusal by its number.
-pub enum Answer {
-    Accepted,
-    Refused(u32),
 }
 
 // The sides of the cell.
@@ -54,7 +50,7 @@ pub fn is_valid(cell: Cell) -> bool
 }
 
 // One axis of wrap: the coordinate moved by whole extents into the cell, but for rounding.
-pub fn wrap_axis(p: f32, low: f32, e: f32) -> f32
+fn wrap_axis(p: f32, low: f32, e: f32) -> f32
     ensures { λ r. ⌜ r ≡ wrapAxis p low e ⌝ }
 {
     p - e * numbers::whole::floor32((p - low) / e)
@@ -168,7 +164,7 @@ pub fn volume(e: Vec3) -> f32
 // Point k of a coordinate list, x y z in turn.
 pub fn point(xs: &[f32], k: usize) -> Vec3
     requires { ⌜ k * 3 + 2 < length (now xs) ⌝ }
-    ensures { λ r. ⌜ r ≡ pointAt (now (xs .entry)) k ⌝ }
+    ensures { λ r. ⌜ r ≡ pointAt (old xs) k ⌝ }
 {
     let i = k * 3;
     Vec3 {

@@ -15,18 +15,18 @@ use lib.Ieee.Back.{round-whole}
 use lib.Ieee.Bits.{is-true}
 use lib.Ieee.Exact.{HasValue}
 use lib.Ieee.Scale.{finite}
+use Rattle.base.specs.Limits.{maxPicks}
 use Rattle.floats.proofs.Bounds.{Within, Exact, add-within, within-more}
 use Rattle.floats.proofs.Quotients.{AtLeast, div-within}
 use Rattle.floats.proofs.SizeTests.{ofInt-is}
 use Rattle.cell.specs.declared.Vec3.{Vec3}
 use Rattle.cell.specs.declared.Cell.{Cell}
 use Rattle.cell.specs.Cell.{extentOf, wrap, minImage, minus, distance2, pointAt, finitePoint}
-use Rattle.cell.specs.Refusals.{firstRefusal}
+use Rattle.base.specs.Refusals.{firstRefusal}
 use Rattle.cell.proofs.Finite.{add-pow, Sides, Around, wrap-around, image-around, minus-around, around-more, around-finite, distance-finite}
 use Rattle.frame_limits.proofs.FiniteFrame.{Limited, limited, solute-around}
-use Rattle.pick_lists.specs.Sound.{finiteAtom}
-use Rattle.pick_lists.specs.Sound.{copiesIn, pickList}
-use Rattle.pick_lists.specs.Input.{inputRefusals}
+use Rattle.pick_lists.specs.Sound.{finiteAtom, copies, pickList}
+use Rattle.pick_lists.specs.Input.{Input, inputRefusals}
 use Rattle.pick_lists.proofs.SoundLists.{sound-lists}
 use Rattle.pick_lists.proofs.CopyPicks.{copy-some, copy-few, copy-finite}
 use Rattle.pick_lists.proofs.InputRefusals.{input-accepted}
@@ -54,10 +54,10 @@ record Terms (n : ℕ) (p : Vec3) : Type 0 where
   on-y : Within (n * 2 ^ 29) (p .y)
   on-z : Within (n * 2 ^ 29) (p .z)
 
-exact-terms : (n : ℕ) → n ≤ 65536 → Exact binary32 (n * 2 ^ 29)
+exact-terms : (n : ℕ) → n ≤ maxPicks → Exact binary32 (n * 2 ^ 29)
 exact-terms n h = record { q = n; j = 29; is = refl; short = lt-of-le-of-lt h (lit< tt); fine = lt-of-le-of-lt (mul-le-mul-right (2 ^ 29) h) (lit< tt) }
 
-terms-more : (n : ℕ) (s u : Vec3) → n < 65536 → Terms n s → Around 29 u → Terms (suc n) (plus s u)
+terms-more : (n : ℕ) (s u : Vec3) → n < maxPicks → Terms n s → Around 29 u → Terms (suc n) (plus s u)
 unfolding plus
 terms-more n s u h t a = record { on-x = one (s .x) (u .x) (t .on-x) (a .on-x); on-y = one (s .y) (u .y) (t .on-y) (a .on-y); on-z = one (s .z) (u .z) (t .on-z) (a .on-z) }
   where
@@ -68,7 +68,7 @@ terms-more n s u h t a = record { on-x = one (s .x) (u .x) (t .on-x) (a .on-x); 
     one x y wx wy = subst (λ (b : ℕ). Within b (add binary32 x y)) next (add-within binary32 x y (n * 2 ^ 29) (2 ^ 29) (subst (λ (b : ℕ). Exact binary32 b) (sym next) (exact-terms (suc n) h)) wx wy)
 
 module _ (c : Cell) (xs : List Float) (anchor : Vec3) (s : Sides (extentOf c)) (a : Around 24 anchor) where
-  sum-terms : (ps : List ℕ) → ((k : ℕ) → k < length ps → Around 20 (pointAt xs (getD ps k 0))) → (n : ℕ) (v : Vec3) → n + length ps ≤ 65536 → Terms n v → Terms (n + length ps) (sumFrom c xs anchor v ps)
+  sum-terms : (ps : List ℕ) → ((k : ℕ) → k < length ps → Around 20 (pointAt xs (getD ps k 0))) → (n : ℕ) (v : Vec3) → n + length ps ≤ maxPicks → Terms n v → Terms (n + length ps) (sumFrom c xs anchor v ps)
   unfolding sumFrom
   sum-terms [] f n v h t = subst (λ (m : ℕ). Terms m v) (sym (add-zero n)) t
   sum-terms (p ∷ ps) f n v h t =
@@ -88,7 +88,7 @@ whole-at-least (inf s) n v h = absurd v
 whole-at-least (fin s m e) n v h = le-trans (le-of-eq (sym (one-mul (down e)))) (le-trans (mul-le-mul-right (down e) h) (le-of-eq (sym (v .1))))
 
 -- terms, divided by a count
-mean-around : (n m : ℕ) (v : Vec3) → n ≤ 65536 → 0 < m → m ≤ 65536 → Terms n v → Around 45 (dividedBy v m)
+mean-around : (n m : ℕ) (v : Vec3) → n ≤ maxPicks → 0 < m → m ≤ maxPicks → Terms n v → Around 45 (dividedBy v m)
 unfolding dividedBy
 mean-around n m v h some few t = record { on-x = one (v .x) (t .on-x); on-y = one (v .y) (t .on-y); on-z = one (v .z) (t .on-z) }
   where
@@ -101,7 +101,7 @@ mean-around n m v h some few t = record { on-x = one (v .x) (t .on-x); on-y = on
         (div-within binary32 x (ofInt binary32 (pos m)) (n * 2 ^ 29) 0 (subst (λ (b : ℕ). Exact binary32 b) (sym (mul-one (n * 2 ^ 29))) (exact-terms n h)) w count)
 
 -- ---- the center of a copy
-copy-around : (c : Cell) (xs : List Float) (ps : List ℕ) → Limited c → ((k : ℕ) → k < length ps → Around 20 (pointAt xs (getD ps k 0))) → 0 < length ps → length ps ≤ 65536 → Around 49 (centerOf c xs ps)
+copy-around : (c : Cell) (xs : List Float) (ps : List ℕ) → Limited c → ((k : ℕ) → k < length ps → Around 20 (pointAt xs (getD ps k 0))) → 0 < length ps → length ps ≤ maxPicks → Around 49 (centerOf c xs ps)
 unfolding centerOf anchorOf ofBits
 copy-around c xs ps l f some few =
     let first = wrap-around 20 c (pointAt xs (getD ps 0 0)) (lit≤ tt) (lit≤ tt) (l .low-around) (l .sides) (f 0 some) in
@@ -111,23 +111,23 @@ copy-around c xs ps l f some few =
     wrap-around 45 c (dividedBy (sumFrom c xs anchor origin ps) (length ps)) (lit≤ tt) (lit≤ tt) (l .low-around) (l .sides) (mean-around (0 + length ps) (length ps) (sumFrom c xs anchor origin ps) (omega arith) some few all)
 
 -- ---- what a reader wants: where nothing is refused
-module _ (c : Cell) (xs ws : List Float) (starts picks : List ℕ) (h : firstRefusal (inputRefusals c xs ws starts picks) ≡ 0) where
-  pub center-around : (i : ℕ) → i < copiesIn starts → Around 49 (centerOf c xs (pickList starts picks i))
+module _ (f : Input) (h : firstRefusal (inputRefusals f) ≡ 0) where
+  pub center-around : (i : ℕ) → i < copies (f .starts) → Around 49 (centerOf (f .cell) (f .solutes) (pickList (f .starts) (f .picks) i))
   unfolding finiteAtom
   center-around i g =
-      let ok = input-accepted c xs ws starts picks h in
-      let l = sound-lists xs starts picks (ok .1) in
-      copy-around c xs (pickList starts picks i) (limited c xs ws (ok .0)) (λ k b. solute-around c xs ws (ok .0) (getD (pickList starts picks i) k 0) (copy-finite xs starts picks l i g k b)) (copy-some xs starts picks l i g) (copy-few xs starts picks l i g)
+      let ok = input-accepted f h in
+      let l = sound-lists (f .solutes) (f .starts) (f .picks) (ok .1) in
+      copy-around (f .cell) (f .solutes) (pickList (f .starts) (f .picks) i) (limited (f .cell) (f .solutes) (f .waters) (ok .0)) (λ k b. solute-around (f .cell) (f .solutes) (f .waters) (ok .0) (getD (pickList (f .starts) (f .picks) i) k 0) (copy-finite (f .solutes) (f .starts) (f .picks) l i g k b)) (copy-some (f .solutes) (f .starts) (f .picks) l i g) (copy-few (f .solutes) (f .starts) (f .picks) l i g)
 
-  pub center-finite : (i : ℕ) → i < copiesIn starts → finitePoint (centerOf c xs (pickList starts picks i)) ≡ true
-  center-finite i g = around-finite 49 (centerOf c xs (pickList starts picks i)) (center-around i g)
+  pub center-finite : (i : ℕ) → i < copies (f .starts) → finitePoint (centerOf (f .cell) (f .solutes) (pickList (f .starts) (f .picks) i)) ≡ true
+  center-finite i g = around-finite 49 (centerOf (f .cell) (f .solutes) (pickList (f .starts) (f .picks) i)) (center-around i g)
 
-  pub center-distance-finite : (i j : ℕ) → i < copiesIn starts → j < copiesIn starts → finite (distance2 (extentOf c) (centerOf c xs (pickList starts picks i)) (centerOf c xs (pickList starts picks j))) ≡ true
+  pub center-distance-finite : (i j : ℕ) → i < copies (f .starts) → j < copies (f .starts) → finite (distance2 (extentOf (f .cell)) (centerOf (f .cell) (f .solutes) (pickList (f .starts) (f .picks) i)) (centerOf (f .cell) (f .solutes) (pickList (f .starts) (f .picks) j))) ≡ true
   center-distance-finite i j g b =
-      let p = centerOf c xs (pickList starts picks i) in
-      let q = centerOf c xs (pickList starts picks j) in
-      is-true (finite (distance2 (extentOf c) p q)) (distance-finite 49 (extentOf c) p q (lit≤ tt) (lit≤ tt) (limited c xs ws (input-accepted c xs ws starts picks h .0) .sides) (center-around i g) (center-around j b))
+      let p = centerOf (f .cell) (f .solutes) (pickList (f .starts) (f .picks) i) in
+      let q = centerOf (f .cell) (f .solutes) (pickList (f .starts) (f .picks) j) in
+      is-true (finite (distance2 (extentOf (f .cell)) p q)) (distance-finite 49 (extentOf (f .cell)) p q (lit≤ tt) (lit≤ tt) (limited (f .cell) (f .solutes) (f .waters) (input-accepted f h .0) .sides) (center-around i g) (center-around j b))
 
   -- of the list that the score reads
-  pub listed-distance-finite : (i j : ℕ) → i < copiesIn starts → j < copiesIn starts → finite (distance2 (extentOf c) (pointAt (centersOf c xs starts picks) i) (pointAt (centersOf c xs starts picks) j)) ≡ true
-  listed-distance-finite i j g b = rw (center-at c xs starts picks i g, center-at c xs starts picks j b) (center-distance-finite i j g b)
+  pub listed-distance-finite : (i j : ℕ) → i < copies (f .starts) → j < copies (f .starts) → finite (distance2 (extentOf (f .cell)) (pointAt (centersOf f) i) (pointAt (centersOf f) j)) ≡ true
+  listed-distance-finite i j g b = rw (center-at f i g, center-at f j b) (center-distance-finite i j g b)

@@ -1,8 +1,6 @@
 -- The laws that the proofs of this crate and of the layers above it cite.
 -- the sum over the picks of a copy, a term at a time
 pub mod Sums
--- a list written into a table, three entries at a time
-pub mod Placing
 -- the list of centers: its length, each copy's center at its place, and how it is written
 pub mod CenterList
 -- what each `return` of Centers answers and leaves

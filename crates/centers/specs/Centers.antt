@@ -5,14 +5,16 @@ use mathlib.Core.List.{List, [], _∷_, _++_}
 use lib.Dec.{ltb}
 use lib.IntN.{pos}
 use lib.ListN.{length, getD}
-use lib.Ieee.{Float, binary32, add, div, ofInt, ofBits}
+use lib.Ieee.{Float, binary32, add, div, ofInt}
+use Rattle.floats.specs.Constants.{zero32}
 use Rattle.cell.specs.declared.Vec3.{Vec3}
 use Rattle.cell.specs.declared.Cell.{Cell}
 use Rattle.cell.specs.Cell.{extentOf, wrap, minImage, minus, pointAt}
-use Rattle.cell.specs.Refusals.{refuse, firstRefusal}
-use Rattle.cell.specs.Tables.{over, unlessRefused}
-use Rattle.pick_lists.specs.Sound.{copiesIn, pickList}
-use Rattle.pick_lists.specs.Input.{inputRefusals}
+use Rattle.base.specs.declared.Answer.{Answer}
+use Rattle.base.specs.Refusals.{refuse, firstRefusal, answerOf}
+use Rattle.base.specs.Tables.{over, unlessRefused}
+use Rattle.pick_lists.specs.Sound.{copies, pickList}
+use Rattle.pick_lists.specs.Input.{Input, inputRefusals}
 
 unfoldable pub plus : Vec3 → Vec3 → Vec3
 plus a b = record { x = add binary32 (a .x) (b .x); y = add binary32 (a .y) (b .y); z = add binary32 (a .z) (b .z) }
@@ -27,7 +29,7 @@ dividedBy a n =
     }
 
 abbrev pub origin : Vec3
-origin = record { x = ofBits binary32 0; y = ofBits binary32 0; z = ofBits binary32 0 }
+origin = record { x = zero32; y = zero32; z = zero32 }
 
 -- anchor + min_image(pick - anchor)
 unfoldable pub unwrapped : Cell → List Float → Vec3 → ℕ → Vec3
@@ -57,15 +59,18 @@ centersFrom c xs starts picks (suc k) i =
     let m = centerOf c xs (pickList starts picks i) in
     m .x ∷ m .y ∷ m .z ∷ centersFrom c xs starts picks k (i + 1)
 
-unfoldable pub centersOf : Cell → List Float → List ℕ → List ℕ → List Float
+unfoldable pub centersOf : Input → List Float
 unfolding centersFrom
-centersOf c xs starts picks = centersFrom c xs starts picks (copiesIn starts) 0
+centersOf f = centersFrom (f .cell) (f .solutes) (f .starts) (f .picks) (copies (f .starts)) 0
 
 -- ---- Centers: 1, 2, 3, 4, 15, 8, then 7
-unfoldable pub centersRefusal : Cell → List Float → List ℕ → List ℕ → List Float → ℕ
+unfoldable pub centersRefusal : Input → List Float → ℕ
 unfolding inputRefusals firstRefusal
-centersRefusal c xs starts picks t = firstRefusal (inputRefusals c xs [] starts picks ++ (refuse 7 (ltb (length t) (copiesIn starts * 3)) ∷ []))
+centersRefusal f t = firstRefusal (inputRefusals f ++ (refuse 7 (ltb (length t) (copies (f .starts) * 3)) ∷ []))
 
-unfoldable pub centersLeaves : Cell → List Float → List ℕ → List ℕ → List Float → List Float
+abbrev pub centersAnswer : Input → List Float → Answer
+centersAnswer f t = answerOf (centersRefusal f t)
+
+unfoldable pub centersAfter : Input → List Float → List Float
 unfolding centersRefusal centersOf
-centersLeaves c xs starts picks t = unlessRefused (centersRefusal c xs starts picks t) (over (centersOf c xs starts picks) t) t
+centersAfter f t = unlessRefused (centersRefusal f t) (over (centersOf f) t) t

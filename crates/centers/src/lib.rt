@@ -1,15 +1,19 @@
 // Centers of copies (document 01, 'Centers and dispersion'; the Rust's `solute_mol_center(s)`). f32 arithmetic, each operation rounded once.
 ghost use mathlib.Core.Path.{_≡_};
 ghost use mathlib.Core.Bool.{true};
+ghost use mathlib.Core.List.{[]};
 ghost use Prim.Native.Nat.{ℕ, _+_, _*_, _<_, _≤_};
 ghost use lib.ListN.{length, getD, replicate};
-ghost use lib.Ieee.{binary32, ofBits};
+ghost use Rattle.base.specs.Entry.{old};
+ghost use Rattle.base.specs.Limits.{maxCopies, maxPicks};
+ghost use Rattle.floats.specs.Constants.{zero32};
 ghost use Rattle.cell.specs.Cell.{extentOf, minImage, minus};
-ghost use Rattle.cell.specs.Refusals.{answerOf};
-ghost use Rattle.cell.specs.Tables.{over};
-ghost use Rattle.pick_lists.specs.Sound.{soundLists, copiesIn, pickList};
-ghost use Rattle.centers.specs.Centers.{plus, dividedBy, centerOf, centersOf, centersRefusal, centersLeaves};
-use cell::Answer;
+ghost use Rattle.base.specs.Tables.{over};
+ghost use Rattle.pick_lists.specs.Sound.{soundLists, copies, pickList};
+ghost use Rattle.pick_lists.specs.Input.{given};
+ghost use Rattle.centers.specs.Centers.{plus, dividedBy, centerOf, centersOf, centersAnswer, centersAfter};
+use base::Answer;
+use base::MAX_COPIES;
 use cell::Cell;
 use cell::Vec3;
 
@@ -24,7 +28,7 @@ fn add(a: Vec3, b: Vec3) -> Vec3
 }
 
 fn divide(a: Vec3, n: usize) -> Vec3
-    requires { ⌜ n ≤ 65536 ⌝ }
+    requires { ⌜ n ≤ maxPicks ⌝ }
     ensures { λ r. ⌜ r ≡ dividedBy a n ⌝ }
 {
     let d = n as f32;
@@ -47,10 +51,11 @@ fn beside(cell: Cell, anchor: Vec3, p: Vec3) -> Vec3
 
 // The center of a copy with these picks, of which there is one or more.
 fn center(cell: Cell, xs: &[f32], picks: &[u32]) -> Vec3
-    requires { ⌜ (0 < length (now picks)) × (length (now picks) ≤ 65536) ⌝ }
+    requires { ⌜ (0 < length (now picks)) × (length (now picks) ≤ maxPicks) ⌝ }
     requires { ⌜ ((k : ℕ) → k < length (now picks) → getD (now picks) k 0 * 3 + 2 < length (now xs)) ⌝ }
-    ensures { λ r. ⌜ r ≡ centerOf cell (now (xs .entry)) (now (picks .entry)) ⌝ }
+    ensures { λ r. ⌜ r ≡ centerOf cell (old xs) (old picks) ⌝ }
 {
+    // Each pick is moved beside the first, so that a copy across a face of the cell is whole.
     let anchor = cell::wrap(cell, cell::point(xs, picks[0] as usize));
     let mut sum = Vec3 {
         x: 0.0,
@@ -71,8 +76,8 @@ fn center(cell: Cell, xs: &[f32], picks: &[u32]) -> Vec3
 // The center of copy i of sound pick lists.
 fn copy_center(cell: Cell, xs: &[f32], starts: &[u32], picks: &[u32], i: usize) -> Vec3
     requires { ⌜ soundLists (now xs) (now starts) (now picks) ≡ true ⌝ }
-    requires { ⌜ i < copiesIn (now starts) ⌝ }
-    ensures { λ r. ⌜ r ≡ centerOf cell (now (xs .entry)) (pickList (now (starts .entry)) (now (picks .entry)) i) ⌝ }
+    requires { ⌜ i < copies (now starts) ⌝ }
+    ensures { λ r. ⌜ r ≡ centerOf cell (old xs) (pickList (old starts) (old picks) i) ⌝ }
 {
     center(cell, xs, pick_lists::copy_picks(starts, picks, i))
 }
@@ -80,9 +85,10 @@ fn copy_center(cell: Cell, xs: &[f32], starts: &[u32], picks: &[u32], i: usize) 
 // Writes x y z of each copy's center, in order, for sound pick lists: the core of Centers, which tests nothing again.
 pub fn put_centers(cell: Cell, xs: &[f32], starts: &[u32], picks: &[u32], centers: &mut [f32])
     requires { ⌜ soundLists (now xs) (now starts) (now picks) ≡ true ⌝ }
-    requires { ⌜ copiesIn (now starts) * 3 ≤ length (now centers) ⌝ }
-    ensures { λ _. ⌜ now (centers .exit) ≡ over (centersOf cell (now (xs .entry)) (now (starts .entry)) (now (picks .entry))) (now (centers .entry)) ⌝ }
+    requires { ⌜ copies (now starts) * 3 ≤ length (now centers) ⌝ }
+    ensures { λ _. ⌜ now (centers .exit) ≡ over (centersOf (given cell (old xs) [] (old starts) (old picks))) (old centers) ⌝ }
 {
+    // Sound pick lists have at least one start.
     let n = starts.len() - 1;
     let mut i = 0;
     while i < n {
@@ -96,12 +102,12 @@ pub fn put_centers(cell: Cell, xs: &[f32], starts: &[u32], picks: &[u32], center
 }
 
 // Room for the centers of a frame, a local array of its caller (docs/DECISIONS.md, 'The gate').
-pub type CenterRoom = [f32; 12288];
+pub type CenterRoom = [f32; MAX_COPIES * 3];
 
 pub fn center_room() -> CenterRoom
-    ensures { λ r. ⌜ r ≡ replicate 12288 (ofBits binary32 0) ⌝ }
+    ensures { λ r. ⌜ r ≡ replicate (maxCopies * 3) zero32 ⌝ }
 {
-    [0f32; 12288]
+    [0f32; MAX_COPIES * 3]
 }
 
 // Centers: 1, 2, 3, 4, 15, 8, 7 in this order, or x y z of each copy's center.
@@ -112,8 +118,8 @@ pub fn centers(
     picks: &[u32],
     centers: &mut [f32],
 ) -> Answer
-    ensures answer { λ r. ⌜ r ≡ answerOf (centersRefusal cell (now (solutes .entry)) (now (starts .entry)) (now (picks .entry)) (now (centers .entry))) ⌝ }
-    ensures after { λ r. ⌜ now (centers .exit) ≡ centersLeaves cell (now (solutes .entry)) (now (starts .entry)) (now (picks .entry)) (now (centers .entry)) ⌝ }
+    ensures answer { λ r. ⌜ r ≡ centersAnswer (given cell (old solutes) [] (old starts) (old picks)) (old centers) ⌝ }
+    ensures after { λ r. ⌜ now (centers .exit) ≡ centersAfter (given cell (old solutes) [] (old starts) (old picks)) (old centers) ⌝ }
 {
     let refusal = pick_lists::input_refusal(cell, solutes, &solutes[..0], starts, picks);
     if refusal != 0 {

@@ -9,10 +9,12 @@ use lib.Dec.{eqb, ltb, leb}
 use lib.ListN.{length, getD, take, drop, length-take, length-drop}
 use lib.Seq.{getD-take, getD-drop}
 use borrow.Author.Tests.{eq-eqb, ne-eqb, eqb-true, ltb-true, leb-true, lt-ltb, le-ltb, le-leb, lt-leb}
-use Rattle.union_find.specs.Range.{allBelow}
+use Rattle.base.specs.Limits.{maxCopies}
+use Rattle.base.specs.Range.{allBelow}
 use Rattle.union_find.specs.Parents.{soundParents}
-use Rattle.union_find.proofs.Ranges.{all-at, all-same, all-both, and-left, and-right, and-false}
-use Rattle.cluster_table.specs.Table.{copies, contacts, parents, degree, mark, pairs, soundWords, soundTable}
+use Rattle.base.proofs.Ranges.{all-at, all-same, all-both}
+use Rattle.base.proofs.Tests.{and-left, and-right, and-false}
+use Rattle.cluster_table.specs.Table.{tableCopies, contacts, parents, degree, mark, pairs, soundWords, soundTable}
 use Rattle.cluster_table.proofs.Pairs.{half-few}
 
 -- ---- degrees and marks
@@ -42,38 +44,38 @@ words-parts n t =
     ∙ all-same n _ _ (λ k l. ap (λ (b : Bool). ltb (degree n t k) n && b) (below-two (mark n t k)))
 
 -- ---- the whole table
-pub table-own : (n : ℕ) (t : List ℕ) → (copies t ≡ n → ⊥) → false ≡ soundTable n t
+pub table-own : (n : ℕ) (t : List ℕ) → (tableCopies t ≡ n → ⊥) → false ≡ soundTable n t
 unfolding soundTable
-table-own n t h = rw (ne-eqb (copies t) n h)
+table-own n t h = rw (ne-eqb (tableCopies t) n h)
 
 pub table-contacts : (n : ℕ) (t : List ℕ) → pairs n < contacts t → false ≡ soundTable n t
 unfolding soundTable
-table-contacts n t h = rw (lt-leb (contacts t) (pairs n) h) (sym (and-false (eqb (copies t) n) false refl))
+table-contacts n t h = rw (lt-leb (contacts t) (pairs n) h) (sym (and-false (eqb (tableCopies t) n) false refl))
 
 pub table-parents : (n : ℕ) (t : List ℕ) → soundParents (parents n t) ≡ false → false ≡ soundTable n t
 unfolding soundTable
-table-parents n t h = rw h (sym (and-false (eqb (copies t) n) _ (and-false (leb (contacts t) (pairs n)) false refl)))
+table-parents n t h = rw h (sym (and-false (eqb (tableCopies t) n) _ (and-false (leb (contacts t) (pairs n)) false refl)))
 
-pub table-words : (n : ℕ) (t : List ℕ) → copies t ≡ n → contacts t ≤ pairs n → soundParents (parents n t) ≡ true
+pub table-words : (n : ℕ) (t : List ℕ) → tableCopies t ≡ n → contacts t ≤ pairs n → soundParents (parents n t) ≡ true
     → allBelow n (soundWords n t) ≡ soundTable n t
 unfolding soundTable
-table-words n t a b c = rw (eq-eqb (copies t) n a, le-leb (contacts t) (pairs n) b, c)
+table-words n t a b c = rw (eq-eqb (tableCopies t) n a, le-leb (contacts t) (pairs n) b, c)
 
 -- ---- what a sound table gives
 pub record Ready (n : ℕ) (t : List ℕ) : Type 0 where
-  pub own : copies t ≡ n
+  pub own : tableCopies t ≡ n
   pub sound : soundParents (parents n t) ≡ true
   pub low : (k : ℕ) → k < n → degree n t k < n
   pub few : contacts t ≤ 2 ^ 24
 
-pub ready-of : (n : ℕ) (t : List ℕ) → n ≤ 4096 → soundTable n t ≡ true → Ready n t
+pub ready-of : (n : ℕ) (t : List ℕ) → n ≤ maxCopies → soundTable n t ≡ true → Ready n t
 unfolding soundTable soundWords
 ready-of n t m e =
-    let e₁ = and-right (eqb (copies t) n) _ e in
+    let e₁ = and-right (eqb (tableCopies t) n) _ e in
     let e₂ = and-right (leb (contacts t) (pairs n)) _ e₁ in
     let e₃ = and-right (soundParents (parents n t)) _ e₂ in
     record {
-      own = eqb-true (copies t) n (and-left _ _ e);
+      own = eqb-true (tableCopies t) n (and-left _ _ e);
       sound = and-left _ _ e₂;
       low = λ k h. ltb-true (degree n t k) n (and-left _ _ (all-at n (soundWords n t) k e₃ h));
       few = omega (arith, leb-true (contacts t) (pairs n) (and-left _ _ e₁), half-few n m);

@@ -7,7 +7,7 @@ use native.Mathlib.Omega.{arith}
 use lib.ListN.{length, getD, set, length-set}
 use lib.Seq.{getD-set-same, getD-set-other}
 use Rattle.union_find.specs.Parents.{joined}
-use Rattle.cluster_table.specs.Table.{copies, contacts, parents, degree, mark, words, withParents, counted, contact}
+use Rattle.cluster_table.specs.Table.{tableCopies, contacts, parents, degree, mark, words, withParents, counted, contact, header, degreeAt, markAt}
 use Rattle.cluster_table.proofs.Parts.{parents-set, parents-set-contacts, with-length, with-parents, with-head, with-tail}
 
 -- x is t with a contact of i and j more and the parents p
@@ -18,29 +18,29 @@ pub record Wrote (n : ℕ) (t p : List ℕ) (i j : ℕ) (x : List ℕ) : Type 0 
   pub high : degree n x j ≡ suc (degree n t j)
   pub rest : (k : ℕ) → k < n → (k ≡ i → ⊥) → (k ≡ j → ⊥) → degree n x k ≡ degree n t k
   pub mark : (k : ℕ) → mark n x k ≡ mark n t k
-  pub own : copies x ≡ copies t
+  pub own : tableCopies x ≡ tableCopies t
   pub same : length x ≡ length t
 
 -- ---- the three words raised
 module _ (n : ℕ) (t : List ℕ) (i j : ℕ) (long : words n ≤ length t) (lo : i < j) (hi : j < n) where
   -- the table after the first degree and after the second
   abbrev v : List ℕ
-  v = set t (2 + n + i) (degree n t i + 1)
+  v = set t (degreeAt n i) (degree n t i + 1)
 
   abbrev w : List ℕ
-  w = set v (2 + n + j) (degree n v j + 1)
+  w = set v (degreeAt n j) (degree n v j + 1)
 
   v-length : length v ≡ length t
-  v-length = length-set t (2 + n + i) (degree n t i + 1)
+  v-length = length-set t (degreeAt n i) (degree n t i + 1)
 
   w-length : length w ≡ length t
-  w-length = length-set v (2 + n + j) (degree n v j + 1) ∙ v-length
+  w-length = length-set v (degreeAt n j) (degree n v j + 1) ∙ v-length
 
   -- a word that is neither degree, and one that is not the contacts either
-  past-degrees : (k : ℕ) → (k ≡ 2 + n + i → ⊥) → (k ≡ 2 + n + j → ⊥) → getD w k 0 ≡ getD t k 0
-  past-degrees k a b = getD-set-other v (2 + n + j) k (degree n v j + 1) 0 b ∙ getD-set-other t (2 + n + i) k (degree n t i + 1) 0 a
+  past-degrees : (k : ℕ) → (k ≡ degreeAt n i → ⊥) → (k ≡ degreeAt n j → ⊥) → getD w k 0 ≡ getD t k 0
+  past-degrees k a b = getD-set-other v (degreeAt n j) k (degree n v j + 1) 0 b ∙ getD-set-other t (degreeAt n i) k (degree n t i + 1) 0 a
 
-  away : (k : ℕ) → (k ≡ 1 → ⊥) → (k ≡ 2 + n + i → ⊥) → (k ≡ 2 + n + j → ⊥) → getD (counted n t i j) k 0 ≡ getD t k 0
+  away : (k : ℕ) → (k ≡ 1 → ⊥) → (k ≡ degreeAt n i → ⊥) → (k ≡ degreeAt n j → ⊥) → getD (counted n t i j) k 0 ≡ getD t k 0
   unfolding counted
   away k o a b = getD-set-other w 1 k (contacts w + 1) 0 o ∙ past-degrees k a b
 
@@ -52,17 +52,17 @@ module _ (n : ℕ) (t : List ℕ) (i j : ℕ) (long : words n ≤ length t) (lo 
   low-up : degree n (counted n t i j) i ≡ suc (degree n t i)
   unfolding counted
   low-up =
-      getD-set-other w 1 (2 + n + i) (contacts w + 1) 0 (λ z. omega arith)
-      ∙ getD-set-other v (2 + n + j) (2 + n + i) (degree n v j + 1) 0 (λ z. omega arith)
-      ∙ getD-set-same t (2 + n + i) (degree n t i + 1) 0 (omega arith)
+      getD-set-other w 1 (degreeAt n i) (contacts w + 1) 0 (λ z. omega arith)
+      ∙ getD-set-other v (degreeAt n j) (degreeAt n i) (degree n v j + 1) 0 (λ z. omega arith)
+      ∙ getD-set-same t (degreeAt n i) (degree n t i + 1) 0 (omega arith)
       ∙ omega arith
 
   high-up : degree n (counted n t i j) j ≡ suc (degree n t j)
   unfolding counted
   high-up =
-      getD-set-other w 1 (2 + n + j) (contacts w + 1) 0 (λ z. omega arith)
-      ∙ getD-set-same v (2 + n + j) (degree n v j + 1) 0 (omega (arith, v-length))
-      ∙ omega (arith, getD-set-other t (2 + n + i) (2 + n + j) (degree n t i + 1) 0 (λ z. omega arith))
+      getD-set-other w 1 (degreeAt n j) (contacts w + 1) 0 (λ z. omega arith)
+      ∙ getD-set-same v (degreeAt n j) (degree n v j + 1) 0 (omega (arith, v-length))
+      ∙ omega (arith, getD-set-other t (degreeAt n i) (degreeAt n j) (degree n t i + 1) 0 (λ z. omega arith))
 
   counts : Wrote n t (parents n t) i j (counted n t i j)
   unfolding counted
@@ -72,8 +72,8 @@ module _ (n : ℕ) (t : List ℕ) (i j : ℕ) (long : words n ≤ length t) (lo 
         up = contacts-up;
         low = low-up;
         high = high-up;
-        rest = λ k h a b. away (2 + n + k) (λ z. omega arith) (λ z. a (omega arith)) (λ z. b (omega arith));
-        mark = λ k. away (2 + n + n + k) (λ z. omega arith) (λ z. omega arith) (λ z. omega arith);
+        rest = λ k h a b. away (degreeAt n k) (λ z. omega arith) (λ z. a (omega arith)) (λ z. b (omega arith));
+        mark = λ k. away (markAt n k) (λ z. omega arith) (λ z. omega arith) (λ z. omega arith);
         own = away 0 (λ z. omega arith) (λ z. omega arith) (λ z. omega arith);
         same = length-set w 1 (contacts w + 1) ∙ w-length;
       }
@@ -83,18 +83,18 @@ module _ (n : ℕ) (t q : List ℕ) (i j : ℕ) (long : words n ≤ length t) (l
   abbrev u : List ℕ
   u = withParents n t q
 
-  room : 2 + n ≤ length t
+  room : header + n ≤ length t
   room = omega arith
 
-  tail-at : (k : ℕ) → getD u (2 + n + k) 0 ≡ getD t (2 + n + k) 0
+  tail-at : (k : ℕ) → getD u (degreeAt n k) 0 ≡ getD t (degreeAt n k) 0
   tail-at k = with-tail n t q room size k
 
-  head-at : (k : ℕ) → k < 2 → getD u k 0 ≡ getD t k 0
+  head-at : (k : ℕ) → k < header → getD u k 0 ≡ getD t k 0
   head-at k h = with-head n t q room size k h
 
   mark-at : (k : ℕ) → mark n u k ≡ mark n t k
   mark-at k =
-      ap (λ (m : ℕ). getD u m 0) (add-assoc (2 + n) n k) ∙ tail-at (n + k) ∙ ap (λ (m : ℕ). getD t m 0) (sym (add-assoc (2 + n) n k))
+      ap (λ (m : ℕ). getD u m 0) (add-assoc (header + n) n k) ∙ tail-at (n + k) ∙ ap (λ (m : ℕ). getD t m 0) (sym (add-assoc (header + n) n k))
 
   u-length : length u ≡ length t
   u-length = with-length n t q room size

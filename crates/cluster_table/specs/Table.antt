@@ -1,53 +1,59 @@
 -- Document 01, 'Clusters': the cluster table, one list of words: copies n, contacts, then n parents, n degrees, n marks.
 -- Definitions only. Assumes nothing.
 use mathlib.Core.Bool.{Bool, _&&_}
-use mathlib.Core.List.{List, [], _∷_, _++_}
-use Prim.Native.Nat.{ℕ, zero, suc, _+_, _-_, _*_, _/_}
+use mathlib.Core.List.{List, _∷_, _++_}
+use Prim.Native.Nat.{ℕ, _+_, _-_, _*_, _/_}
 use lib.ListN.{getD, set, take, drop, replicate}
 use lib.Dec.{eqb, leb, ltb}
-use Rattle.union_find.specs.Range.{allBelow}
+use Rattle.base.specs.Tables.{over, firstNumbers}
+use Rattle.base.specs.Range.{allBelow}
 use Rattle.union_find.specs.Parents.{joined, soundParents}
 
-abbrev pub copies : List ℕ → ℕ
-copies t = getD t 0 0
+-- the words before the parents
+abbrev pub header : ℕ
+header = 2
+
+abbrev pub tableCopies : List ℕ → ℕ
+tableCopies t = getD t 0 0
 
 abbrev pub contacts : List ℕ → ℕ
 contacts t = getD t 1 0
 
 abbrev pub parents : ℕ → List ℕ → List ℕ
-parents n t = take n (drop 2 t)
+parents n t = take n (drop header t)
+
+-- where the degree of copy i stands, and its mark
+abbrev pub degreeAt : ℕ → ℕ → ℕ
+degreeAt n i = header + n + i
+
+abbrev pub markAt : ℕ → ℕ → ℕ
+markAt n i = header + n + n + i
 
 abbrev pub degree : ℕ → List ℕ → ℕ → ℕ
-degree n t i = getD t (2 + n + i) 0
+degree n t i = getD t (degreeAt n i) 0
 
 abbrev pub mark : ℕ → List ℕ → ℕ → ℕ
-mark n t i = getD t (2 + n + n + i) 0
+mark n t i = getD t (markAt n i) 0
 
 -- the words that a table of n copies needs
 abbrev pub words : ℕ → ℕ
-words n = 2 + 3 * n
+words n = header + 3 * n
 
 -- ---- opening
--- k, k + 1, .., n of them
-unfoldable pub upFrom : ℕ → ℕ → List ℕ
-upFrom zero k = []
-upFrom (suc n) k = k ∷ upFrom n (suc k)
-
 -- n, no contacts, each its own parent, and zeros
 unfoldable pub opened : ℕ → List ℕ → List ℕ
-unfolding upFrom
-opened n t = n ∷ 0 ∷ (upFrom n 0 ++ (replicate (n + n) 0 ++ drop (words n) t))
+opened n t = over (n ∷ 0 ∷ (firstNumbers n ++ replicate (n + n) 0)) t
 
 -- ---- a contact
 -- the parents p in their place
 abbrev pub withParents : ℕ → List ℕ → List ℕ → List ℕ
-withParents n t p = take 2 t ++ (p ++ drop (2 + n) t)
+withParents n t p = take header t ++ (p ++ drop (header + n) t)
 
 -- the degrees of i and j and the contacts, each raised by one
 unfoldable pub counted : ℕ → List ℕ → ℕ → ℕ → List ℕ
 counted n t i j =
-    let v = set t (2 + n + i) (degree n t i + 1) in
-    let w = set v (2 + n + j) (degree n v j + 1) in
+    let v = set t (degreeAt n i) (degree n t i + 1) in
+    let w = set v (degreeAt n j) (degree n v j + 1) in
     set w 1 (contacts w + 1)
 
 -- a touch of i and j: the root of j is joined under the root of i, and both degrees and the contacts are raised
@@ -67,4 +73,4 @@ soundWords n t i = ltb (degree n t i) n && leb (mark n t i) 1
 -- n is the table's own, contacts do not exceed the possible pairs, and parents, degrees and marks are sound
 unfoldable pub soundTable : ℕ → List ℕ → Bool
 unfolding soundParents soundWords
-soundTable n t = eqb (copies t) n && (leb (contacts t) (pairs n) && (soundParents (parents n t) && allBelow n (soundWords n t)))
+soundTable n t = eqb (tableCopies t) n && (leb (contacts t) (pairs n) && (soundParents (parents n t) && allBelow n (soundWords n t)))

@@ -6,10 +6,15 @@ ghost use mathlib.Core.Bool.{true};
 ghost use Prim.Native.Nat.{_+_, _^_, _<_, _≤_};
 ghost use lib.Dec.{ltb, eqb};
 ghost use lib.ListN.{length, getD, set};
-ghost use Rattle.union_find.specs.Range.{allBelow, count};
+ghost use Rattle.base.specs.Entry.{old};
+ghost use Rattle.base.specs.Limits.{maxCopies};
+ghost use Rattle.base.specs.Range.{allBelow, count};
 ghost use Rattle.union_find.specs.Parents.{soundParents};
-ghost use Rattle.cluster_table.specs.Table.{parents, degree, contacts, mark, words, pairs, contact, opened, soundWords, soundTable};
+ghost use Rattle.cluster_table.specs.Table.{parents, degree, contacts, mark, markAt, words, pairs, contact, opened, soundWords, soundTable};
 ghost use Rattle.cluster_table.specs.Fractions.{ratio, tableFractions};
+
+// The words before the parents.
+pub const HEADER: usize = 2;
 
 // The three fractions of a table.
 pub struct ClusterFractions {
@@ -18,15 +23,9 @@ pub struct ClusterFractions {
     pub pair: f32,
 }
 
-fn wide(x: u32) -> usize
-    ensures { λ r. ⌜ r ≡ x ⌝ }
-{
-    x as usize
-}
-
 // How many pairs n copies have.
 fn pair_count(n: usize) -> usize
-    requires { ⌜ n ≤ 4096 ⌝ }
+    requires { ⌜ n ≤ maxCopies ⌝ }
     ensures { λ r. ⌜ r ≡ pairs n ⌝ }
 {
     if n == 0 {
@@ -39,19 +38,19 @@ fn pair_count(n: usize) -> usize
 
 // Writes the table of n copies with no contact.
 pub fn open_table(table: &mut [u32], n: usize)
-    requires { ⌜ (n ≤ 4096) × (words n ≤ length (now table)) ⌝ }
-    ensures { λ _. ⌜ now (table .exit) ≡ opened n (now (table .entry)) ⌝ }
+    requires { ⌜ (n ≤ maxCopies) × (words n ≤ length (now table)) ⌝ }
+    ensures { λ _. ⌜ now (table .exit) ≡ opened n (old table) ⌝ }
 {
     table[0] = n as u32;
     table[1] = 0;
     let mut i = 0;
     while i < n {
-        table[2 + i] = i as u32;
+        table[HEADER + i] = i as u32;
         i += 1;
     }
     let mut k = 0;
     while k < n + n {
-        table[2 + n + k] = 0;
+        table[HEADER + n + k] = 0;
         k += 1;
     }
 }
@@ -60,10 +59,10 @@ pub fn open_table(table: &mut [u32], n: usize)
 
 // Whether the degrees are below n and the marks 0 or 1.
 fn words_sound(table: &[u32], n: usize) -> bool
-    requires { ⌜ (n ≤ 4096) × (words n ≤ length (now table)) ⌝ }
-    ensures { λ r. ⌜ r ≡ allBelow n (soundWords n (now (table .entry))) ⌝ }
+    requires { ⌜ (n ≤ maxCopies) × (words n ≤ length (now table)) ⌝ }
+    ensures { λ r. ⌜ r ≡ allBelow n (soundWords n (old table)) ⌝ }
 {
-    let a = 2 + n;
+    let a = HEADER + n;
     let b = a + n;
     let c = b + n;
     sound_parents::all_below(&table[a..b], n as u32) & sound_parents::all_below(&table[b..c], 2)
@@ -71,17 +70,17 @@ fn words_sound(table: &[u32], n: usize) -> bool
 
 // Whether a table of n copies is sound: any table whatever is decided.
 pub fn is_sound(table: &[u32], n: usize) -> bool
-    requires { ⌜ (n ≤ 4096) × (words n ≤ length (now table)) ⌝ }
-    ensures { λ r. ⌜ r ≡ soundTable n (now (table .entry)) ⌝ }
+    requires { ⌜ (n ≤ maxCopies) × (words n ≤ length (now table)) ⌝ }
+    ensures { λ r. ⌜ r ≡ soundTable n (old table) ⌝ }
 {
-    if wide(table[0]) != n {
+    if base::wide(table[0]) != n {
         return false;
     }
-    if wide(table[1]) > pair_count(n) {
+    if base::wide(table[1]) > pair_count(n) {
         return false;
     }
-    let end = 2 + n;
-    if !sound_parents::is_sound(&table[2..end]) {
+    let end = HEADER + n;
+    if !sound_parents::is_sound(&table[HEADER..end]) {
         return false;
     }
     words_sound(table, n)
@@ -92,20 +91,21 @@ pub fn is_sound(table: &[u32], n: usize) -> bool
 // Adds 1 to a word.
 fn raise(table: &mut [u32], at: usize)
     requires { ⌜ (at < length (now table)) × (getD (now table) at 0 + 1 < 2 ^ 32) ⌝ }
-    ensures { λ _. ⌜ now (table .exit) ≡ set (now (table .entry)) at (getD (now (table .entry)) at 0 + 1) ⌝ }
+    ensures { λ _. ⌜ now (table .exit) ≡ set (old table) at (getD (old table) at 0 + 1) ⌝ }
 {
     table[at] = table[at] + 1;
 }
 
 // A touch of i and j: their sets are joined, and both degrees and the contacts raised, also where one root was theirs already.
 pub fn add_contact(table: &mut [u32], n: usize, i: usize, j: usize)
-    requires { ⌜ (n ≤ 4096) × (words n ≤ length (now table)) × (i < j) × (j < n) ⌝ }
+    requires { ⌜ (n ≤ maxCopies) × (words n ≤ length (now table)) × (i < j) × (j < n) ⌝ }
     requires { ⌜ soundParents (parents n (now table)) ≡ true ⌝ }
     requires { ⌜ (degree n (now table) i < 2 ^ 31) × (degree n (now table) j < 2 ^ 31) × (contacts (now table) < 2 ^ 31) ⌝ }
-    ensures { λ _. ⌜ now (table .exit) ≡ contact n (now (table .entry)) i j ⌝ }
+    ensures { λ _. ⌜ now (table .exit) ≡ contact n (old table) i j ⌝ }
 {
-    let end = 2 + n;
-    union_find::union_roots(&mut table[2..end], i as u32, j as u32);
+    let end = HEADER + n;
+    // Chains are shortened also where i and j have one root already.
+    union_find::union_roots(&mut table[HEADER..end], i as u32, j as u32);
     raise(table, end + i);
     raise(table, end + j);
     raise(table, 1);
@@ -113,20 +113,20 @@ pub fn add_contact(table: &mut [u32], n: usize, i: usize, j: usize)
 
 // Mark i becomes 1.
 pub fn set_mark(table: &mut [u32], n: usize, i: usize)
-    requires { ⌜ (n ≤ 4096) × (words n ≤ length (now table)) × (i < n) ⌝ }
-    ensures { λ _. ⌜ now (table .exit) ≡ set (now (table .entry)) (2 + n + n + i) 1 ⌝ }
+    requires { ⌜ (n ≤ maxCopies) × (words n ≤ length (now table)) × (i < n) ⌝ }
+    ensures { λ _. ⌜ now (table .exit) ≡ set (old table) (markAt n i) 1 ⌝ }
 {
-    table[2 + n + n + i] = 1;
+    table[HEADER + n + n + i] = 1;
 }
 
 // Whether every row is accepted.
 pub fn all_marked(table: &[u32], n: usize) -> bool
-    requires { ⌜ (n ≤ 4096) × (words n ≤ length (now table)) ⌝ }
-    ensures { λ r. ⌜ r ≡ allBelow n (λ i. eqb (mark n (now (table .entry)) i) 1) ⌝ }
+    requires { ⌜ (n ≤ maxCopies) × (words n ≤ length (now table)) ⌝ }
+    ensures { λ r. ⌜ r ≡ allBelow n (λ i. eqb (mark n (old table) i) 1) ⌝ }
 {
     let mut i = 0;
     while i < n {
-        if table[2 + n + n + i] != 1 {
+        if table[HEADER + n + n + i] != 1 {
             return false;
         }
         i += 1;
@@ -138,13 +138,13 @@ pub fn all_marked(table: &[u32], n: usize) -> bool
 
 // How many copies have a contact.
 fn contacted(table: &[u32], n: usize) -> u32
-    requires { ⌜ (n ≤ 4096) × (words n ≤ length (now table)) ⌝ }
-    ensures { λ k. ⌜ k ≡ count n (λ i. ltb 0 (degree n (now (table .entry)) i)) ⌝ }
+    requires { ⌜ (n ≤ maxCopies) × (words n ≤ length (now table)) ⌝ }
+    ensures { λ k. ⌜ k ≡ count n (λ i. ltb 0 (degree n (old table) i)) ⌝ }
 {
     let mut k = 0;
     let mut i = 0;
     while i < n {
-        if 0 < table[2 + n + i] {
+        if 0 < table[HEADER + n + i] {
             k += 1;
         }
         i += 1;
@@ -162,9 +162,9 @@ fn quotient(a: u32, b: u32) -> f32
 
 // The three fractions of a sound table of n copies.
 pub fn fractions(table: &[u32], n: usize) -> ClusterFractions
-    requires { ⌜ (n ≤ 4096) × (words n ≤ length (now table)) ⌝ }
+    requires { ⌜ (n ≤ maxCopies) × (words n ≤ length (now table)) ⌝ }
     requires { ⌜ soundTable n (now table) ≡ true ⌝ }
-    ensures { λ r. ⌜ r ≡ tableFractions (now (table .entry)) ⌝ }
+    ensures { λ r. ⌜ r ≡ tableFractions (old table) ⌝ }
 {
     if n < 2 {
         return ClusterFractions {
@@ -173,8 +173,8 @@ pub fn fractions(table: &[u32], n: usize) -> ClusterFractions
             pair: 0.0,
         };
     }
-    let end = 2 + n;
-    let largest = union_find::largest_set(&table[2..end]);
+    let end = HEADER + n;
+    let largest = union_find::largest_set(&table[HEADER..end]);
     ClusterFractions {
         largest: quotient(largest - 1, (n - 1) as u32),
         contacted: quotient(contacted(table, n), n as u32),

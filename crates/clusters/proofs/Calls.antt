@@ -10,13 +10,13 @@ use native.Mathlib.Decide.{decLt, decLe}
 use lib.ListN.{length, replicate, length-replicate}
 use lib.Dec.{eqb, ltb, leb}
 use borrow.Author.Tests.{eq-eqb, ne-eqb, lt-ltb, le-ltb, le-leb, lt-leb}
-use Rattle.cell.specs.Refusals.{firstRefusal, answerOf}
-use Rattle.cell.specs.Tables.{unlessRefused}
+use Rattle.base.specs.Refusals.{firstRefusal, answerOf}
+use Rattle.base.specs.Tables.{unlessRefused}
 use Rattle.union_find.specs.Parents.{largestSet}
 use Rattle.union_find.proofs.Forest.{decide}
-use Rattle.union_find.proofs.Ranges.{and-false}
+use Rattle.base.proofs.Tests.{and-false}
 use Rattle.cluster_table.specs.Table.{parents, words, opened}
-use Rattle.clusters.specs.Answers.{rowTable, tableRefusals}
+use Rattle.clusters.specs.Answers.{rowTable, rowTableRefusals}
 use Rattle.clusters.specs.Graph.{Largest, graph, contactGraph}
 use Rattle.clusters.specs.Order.{isAccepted}
 use Rattle.clusters.proofs.Holds.{Holds}
@@ -61,10 +61,10 @@ module _ (touch : ℕ → ℕ → Bool) (n : ℕ) where
     from-table frame r e =
         decide frame 0 (λ z. e ∙ rw (eq-eqb frame 0 z)) (λ m. absurd (m (sym (e ∙ rw (ne-eqb frame 0 m)))))
 
-    pub state-answer : (frame r : ℕ) → r ≡ cond (eqb frame 0) (firstRefusal (tableRefusals n t i)) frame
+    pub state-answer : (frame r : ℕ) → r ≡ cond (eqb frame 0) (firstRefusal (rowTableRefusals n t i)) frame
         → State touch n (with-answer i r acc) (unlessRefused r (rowTable touch n i t) t)
     state-answer frame zero e =
-        let f = fresh-row (from-table frame (firstRefusal (tableRefusals n t i)) e ∙ row-answer s i) in
+        let f = fresh-row (from-table frame (firstRefusal (rowTableRefusals n t i)) e ∙ row-answer s i) in
         same-rows (with-row i acc) (with-answer i 0 acc) (rowTable touch n i t)
         (λ k. or-comm (eqb i k) (acc k) ∙ ap (λ (b : Bool). acc k || b) (sym (and-true (eqb i k))))
         (row-table-holds touch n acc i (f .0) (f .1) s)

@@ -7,23 +7,23 @@ use lib.ListN.{replicate}
 use lib.Ieee.{Float, binary32, ofBits, ofInt, add, sub, mul, div, lt, le, neg}
 use Rattle.floats.specs.Whole.{roundOf}
 use Rattle.cell.specs.Cell.{extentOf, validAxis, valid, minImage, imageAxis, squared, minus, distance2, pointAt, finitePoint}
-use Rattle.frame_limits.specs.Limits.{over, anyOver, ragged, long, longIndices, boundOver, lengths, counts, bounds, coordinates, validity, limitRefusals, frameRefusals}
-use Rattle.cell.specs.declared.Answer.{Answer}
-use Rattle.cell.specs.declared.Answer.the-variants.{Accepted, Refused}
-use Rattle.cell.specs.Refusals.{firstRefusal}
+use Rattle.frame_limits.specs.Limits.{exceeds, anyOver, ragged, long, longIndices, boundOver, lengths, counts, bounds, coordinates, validity, limitRefusals, frameRefusals}
+use Rattle.base.specs.declared.Answer.{Answer}
+use Rattle.base.specs.declared.Answer.the-variants.{Accepted, Refused}
+use Rattle.base.specs.Tables.{over, firstNumbers}
+use Rattle.base.specs.Refusals.{firstRefusal}
 use Rattle.cell.proofs.Examples.{upTo}
-use Rattle.pick_lists.specs.Sound.{finiteAtom}
-use Rattle.pick_lists.specs.Sound.{rises, allFinite, pickList, soundStarts, soundLists, soundness}
-use Rattle.pick_lists.specs.Input.{inputRefusals}
+use Rattle.pick_lists.specs.Sound.{finiteAtom, rises, allFinite, pickList, soundStarts, soundLists, soundness}
+use Rattle.pick_lists.specs.Input.{Input, inputRefusals}
 use Rattle.touch.specs.Touch.{cutoff2, near, anyIn, anyPair, copiesTouch}
-use Rattle.union_find.specs.Range.{allBelow, count, greatest}
+use Rattle.base.specs.Range.{allBelow, count, greatest}
 use Rattle.union_find.specs.Parents.{walk, rootOf, shortened, compressed, joined, reachesRoot, soundParents, setSize, largestSet}
-use Rattle.cluster_table.specs.Table.{upFrom, opened, counted, contact, soundWords, soundTable}
+use Rattle.cluster_table.specs.Table.{opened, counted, contact, soundWords, soundTable}
 use Rattle.cluster_table.specs.Fractions.{ratio, threeFractions, tableFractions}
 use Rattle.clusters.specs.declared.Closing.{Closing}
 use Rattle.clusters.specs.declared.Closing.the-variants as closing
-use Rattle.clusters.specs.Answers.{pass, rowTable, openRefusals, openRefusal, openLeaves, tableRefusals, rowRefusal, rowLeaves, closeRefusals, closeRefusal, closeAnswer}
-use Rattle.clusters.specs.Order.{Input, touchOf, Call, row, close, reopen, rowAnswer, openAnswer, leaves, after}
+use Rattle.clusters.specs.Answers.{pass, rowTable, openRefusals, openRefusal, openAfter, rowTableRefusals, rowRefusal, rowAfter, closeRefusals, closeRefusal, closeAnswer, openAnswer, rowAnswer}
+use Rattle.clusters.specs.Order.{Call, row, close, reopen, callAfter, after}
 
 -- the copies stand at (2, 2, 2), (4, 2, 2), (8, 2, 2) and (2, 8, 2)
 abbrev pub two : Float
@@ -40,6 +40,7 @@ input =
     record {
       cell = upTo 0x4180_0000;
       solutes = two ∷ two ∷ two ∷ four ∷ two ∷ two ∷ eight ∷ two ∷ two ∷ two ∷ eight ∷ two ∷ [];
+      waters = [];
       starts = 0 ∷ 1 ∷ 2 ∷ 3 ∷ 4 ∷ [];
       picks = 0 ∷ 1 ∷ 2 ∷ 3 ∷ [];
     }
@@ -49,7 +50,7 @@ abbrev pub lent : List ℕ
 lent = replicate 15 9
 
 abbrev pub opening : List ℕ
-opening = openLeaves 4 lent
+opening = openAfter 4 lent
 
 -- what a call answers: Row and Open acceptance or a refusal, Close the fractions or a refusal
 pub data Answered : Type 0 where
@@ -64,7 +65,7 @@ answerTo f t (reopen k) = took (openAnswer k t)
 -- what each call of a list answers
 pub answersOf : Input → List ℕ → List Call → List Answered
 answersOf f t [] = []
-answersOf f t (c ∷ cs) = answerTo f t c ∷ answersOf f (leaves f t c) cs
+answersOf f t (c ∷ cs) = answerTo f t c ∷ answersOf f (callAfter f t c) cs
 
 abbrev pub calls : List Call
 calls = row 3 ∷ row 2 ∷ row 1 ∷ row 7 ∷ row 1 ∷ close ∷ reopen 4097 ∷ reopen 5 ∷ row 0 ∷ close ∷ []
@@ -80,9 +81,9 @@ pub record Worked : Type 0 where
 
 pub worked : Worked
 unfolding input answerTo answersOf firstRefusal inputRefusals frameRefusals limitRefusals lengths counts bounds coordinates validity soundness ragged long longIndices
-    boundOver anyOver over valid validAxis extentOf soundLists soundStarts rises allFinite finiteAtom finitePoint pointAt touchOf copiesTouch
+    boundOver anyOver exceeds valid validAxis extentOf soundLists soundStarts rises allFinite finiteAtom finitePoint pointAt copiesTouch
     pickList anyPair anyIn near cutoff2 distance2 squared minImage imageAxis minus roundOf allBelow count greatest walk rootOf shortened
-    compressed joined reachesRoot soundParents setSize largestSet upFrom opened counted contact pass rowTable soundWords soundTable
-    openRefusals openRefusal openLeaves tableRefusals rowRefusal rowLeaves closeRefusals closeRefusal ratio threeFractions tableFractions
-    closeAnswer leaves after ofBits ofInt add sub mul div lt le neg
+    compressed joined reachesRoot soundParents setSize largestSet firstNumbers over opened counted contact pass rowTable soundWords soundTable
+    openRefusals openRefusal openAfter rowTableRefusals rowRefusal rowAfter closeRefusals closeRefusal ratio threeFractions tableFractions
+    closeAnswer callAfter after ofBits ofInt add sub mul div lt le neg
 worked = record { answers = refl; table = refl }

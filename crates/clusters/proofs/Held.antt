@@ -10,17 +10,19 @@ use native.Mathlib.Decide.{decLe}
 use lib.ListN.{length}
 use lib.Dec.{eqb, ltb, leb}
 use borrow.Author.Tests.{lt-ltb, le-ltb, le-leb, lt-leb}
-use Rattle.cell.specs.Refusals.{firstRefusal}
-use Rattle.union_find.specs.Range.{bit, allBelow, count}
+use Rattle.base.specs.Limits.{maxCopies}
+use Rattle.base.specs.Refusals.{firstRefusal}
+use Rattle.base.specs.Range.{bit, allBelow, count}
 use Rattle.union_find.specs.Parents.{largestSet}
 use Rattle.union_find.proofs.Forest.{sound-parents}
-use Rattle.union_find.proofs.Ranges.{all-true, all-false, all-same, count-same, bit-le}
+use Rattle.base.proofs.Ranges.{all-true, all-false, all-same, count-same}
+use Rattle.base.proofs.Tests.{bit-le}
 use Rattle.cluster_table.specs.Table.{parents, degree, mark, words, soundWords, soundTable}
 use Rattle.cluster_table.specs.Fractions.{threeFractions, tableFractions}
 use Rattle.cluster_table.proofs.Parts.{parents-length}
 use Rattle.cluster_table.proofs.Checks.{words-right, table-words}
 use Rattle.clusters.specs.declared.Closing.the-variants.{Refused}
-use Rattle.clusters.specs.Answers.{tableRefusals, closed, closeAnswer}
+use Rattle.clusters.specs.Answers.{rowTableRefusals, closed, closeAnswer}
 use Rattle.clusters.specs.Graph.{degreeOf, contactsOf, Largest}
 use Rattle.clusters.specs.Order.{graphFractions}
 use Rattle.clusters.proofs.Holds.{Holds}
@@ -56,7 +58,7 @@ module _ {n : ℕ} {g : ℕ → ℕ → Bool} {acc : ℕ → Bool} {t : List ℕ
   mark-test : (i : ℕ) → i < n → eqb (mark n t i) 1 ≡ acc i
   mark-test i l = rw (s .marks i l) (mark-bit (acc i))
 
-  pub row-answer : (i : ℕ) → firstRefusal (tableRefusals n t i) ≡ cond (leb n i) 10 (cond (acc i) 11 0)
+  pub row-answer : (i : ℕ) → firstRefusal (rowTableRefusals n t i) ≡ cond (leb n i) 10 (cond (acc i) 11 0)
   row-answer i = table-chain n t i ∙ rw (le-ltb (length t) (words n) (s .long), sound-table) (go (decLe n i))
     where
       go : Dec (n ≤ i) → _≡_ {A = ℕ} (cond (leb n i) 10 (cond (eqb (mark n t i) 1) 11 0)) (cond (leb n i) 10 (cond (acc i) 11 0))
@@ -68,12 +70,12 @@ module _ {n : ℕ} {g : ℕ → ℕ → Bool} {acc : ℕ → Bool} {t : List ℕ
   all-marks = all-same n (λ i. eqb (mark n t i) 1) acc mark-test
 
   -- some row is not accepted
-  pub close-waits : n ≤ 4096 → (i : ℕ) → i < n → acc i ≡ false → closeAnswer t ≡ Refused 12
+  pub close-waits : n ≤ maxCopies → (i : ℕ) → i < n → acc i ≡ false → closeAnswer t ≡ Refused 12
   close-waits l i h e =
       sym (waits t n (sym (s .own)) (omega (arith, s .long)) (s .long) l true (sym sound-table) refl false (sym (all-marks ∙ all-false n acc i h e)) refl)
 
   -- every row is accepted
-  pub close-full : n ≤ 4096 → ((i : ℕ) → i < n → acc i ≡ true) → closeAnswer t ≡ closed (tableFractions t)
+  pub close-full : n ≤ maxCopies → ((i : ℕ) → i < n → acc i ≡ true) → closeAnswer t ≡ closed (tableFractions t)
   close-full l a =
       sym (gives t n (sym (s .own)) (omega (arith, s .long)) (s .long) l true (sym sound-table) refl true (sym (all-marks ∙ all-true n acc a)) refl (tableFractions t) refl)
 
@@ -98,5 +100,5 @@ module _ {n : ℕ} {g : ℕ → ℕ → Bool} {acc : ℕ → Bool} {t : List ℕ
       (λ z. ap (graphFractions n g) (one-largest (largest-held (omega (arith, z .below))) z)) c
 
   -- the fractions of the graph, for the size m of its largest cluster
-  pub close-gives : n ≤ 4096 → ((i : ℕ) → i < n → acc i ≡ true) → (m : ℕ) → (n < 2) ⊎ Largest n g m → closeAnswer t ≡ closed (graphFractions n g m)
+  pub close-gives : n ≤ maxCopies → ((i : ℕ) → i < n → acc i ≡ true) → (m : ℕ) → (n < 2) ⊎ Largest n g m → closeAnswer t ≡ closed (graphFractions n g m)
   close-gives l a m c = close-full l a ∙ ap closed (fractions-are ∙ one-size m c)

@@ -7,12 +7,12 @@ use mathlib.Core.List.{List}
 use Prim.Native.Nat.{ℕ, suc, _≤_, _<_}
 use native.Mathlib.Omega.{arith}
 use lib.ListN.{length}
-use Rattle.union_find.specs.Range.{bit, count}
+use Rattle.base.specs.Range.{bit, count}
 use Rattle.union_find.specs.Parents.{rootOf, joined}
-use Rattle.cluster_table.specs.Table.{copies, contacts, parents, degree, mark, words, contact}
+use Rattle.cluster_table.specs.Table.{tableCopies, contacts, parents, degree, mark, words, contact}
 use Rattle.clusters.specs.Graph.{Chain, either, degreeOf, contactsOf}
 use Rattle.union_find.proofs.Forest.{decide, Sound}
-use Rattle.union_find.proofs.Ranges.{count-same, count-add, total-add}
+use Rattle.base.proofs.Ranges.{count-same, count-add, total-add}
 use Rattle.union_find.proofs.Joins.{joins}
 use Rattle.cluster_table.proofs.Contacts.{wrote}
 use Rattle.cluster_table.proofs.Parts.{parents-length}
@@ -20,7 +20,7 @@ use Rattle.clusters.proofs.Chains.{or-right, Adds, adds-inside, merge}
 
 pub record Holds (n : ℕ) (g : ℕ → ℕ → Bool) (acc : ℕ → Bool) (t : List ℕ) : Type 0 where
   pub long : words n ≤ length t
-  pub own : copies t ≡ n
+  pub own : tableCopies t ≡ n
   pub sound : Sound (parents n t)
   pub sets : (i j : ℕ) → i < n → j < n → (rootOf (parents n t) i ≡ rootOf (parents n t) j) ↔ Chain g i j
   pub degrees : (i : ℕ) → i < n → degree n t i ≡ degreeOf n g i

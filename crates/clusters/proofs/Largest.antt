@@ -12,7 +12,7 @@ use borrow.Author.Tests.{eq-eqb, ne-eqb, eqb-true}
 use Rattle.union_find.specs.Parents.{rootOf, setSize, largestSet}
 use Rattle.union_find.proofs.Forest.{Sound, sound-root}
 use Rattle.union_find.proofs.Trails.{root-below}
-use Rattle.union_find.proofs.Ranges.{count-same, greatest-at, greatest-is, count-some, count-pos}
+use Rattle.base.proofs.Ranges.{count-same, greatest-at, greatest-is, count-some, count-pos}
 use Rattle.clusters.specs.Graph.{Chain, Cluster, Largest}
 
 module _ {g : ℕ → ℕ → Bool} (p : List ℕ) (s : Sound p) (sets : (i j : ℕ) → i < length p → j < length p → (rootOf p i ≡ rootOf p j) ↔ Chain g i j) where

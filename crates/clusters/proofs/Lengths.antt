@@ -2,12 +2,12 @@
 use mathlib.Core.Path.{_≡_, refl, _∙_}
 use mathlib.Core.Bool.{Bool, true, false, cond}
 use mathlib.Core.List.{List}
-use Prim.Native.Nat.{ℕ, zero, suc, _+_, _-_}
+use Prim.Native.Nat.{ℕ, zero, suc, _-_}
 use native.Mathlib.Omega.{arith}
 use lib.ListN.{length, getD, set, length-set, length-append, length-take, length-drop}
 use lib.Dec.{eqb}
 use Rattle.union_find.specs.Parents.{rootOf, shortened, compressed, joined}
-use Rattle.cluster_table.specs.Table.{parents, withParents, counted, contact}
+use Rattle.cluster_table.specs.Table.{parents, withParents, counted, contact, markAt}
 use Rattle.clusters.specs.Answers.{pass, rowTable}
 
 -- a test between two lists of one length
@@ -55,4 +55,4 @@ module _ (touch : ℕ → ℕ → Bool) (n i : ℕ) where
 
   pub row-length : (t : List ℕ) → length (rowTable touch n i t) ≡ length t
   unfolding rowTable
-  row-length t = length-set (pass touch n i (n - suc i) (suc i) t) (2 + n + n + i) 1 ∙ pass-length (n - suc i) (suc i) t
+  row-length t = length-set (pass touch n i (n - suc i) (suc i) t) (markAt n i) 1 ∙ pass-length (n - suc i) (suc i) t

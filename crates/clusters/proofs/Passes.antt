@@ -6,9 +6,10 @@ use Prim.Native.Nat.{ℕ, zero, suc, _+_, _-_, _^_, _≤_, _<_}
 use native.Mathlib.Omega.{arith}
 use native.Mathlib.Numerals.{add-one}
 use lib.ListN.{length, set}
-use Rattle.boxes.specs.Boxes.{firstPast}
+use Rattle.base.specs.Limits.{maxCopies}
+use Rattle.spans.specs.Inner.{firstPast}
 use Rattle.union_find.specs.Parents.{soundParents}
-use Rattle.cluster_table.specs.Table.{parents, degree, contacts, words, contact}
+use Rattle.cluster_table.specs.Table.{parents, degree, contacts, words, contact, markAt}
 use Rattle.clusters.specs.Answers.{pass, rowTable}
 use Rattle.union_find.proofs.Forest.{decide, Sound, sound-parents}
 use Rattle.union_find.proofs.Joins.{joins}
@@ -23,7 +24,7 @@ pub record Run (touch : ℕ → ℕ → Bool) (n i : ℕ) (t₀ : List ℕ) (t :
   pub same : length t ≡ length t₀
   pub long : words n ≤ length t
   pub sound : Sound (parents n t)
-  pub low : (k : ℕ) → k < n → degree n t k < 4096 + j
+  pub low : (k : ℕ) → k < n → degree n t k < maxCopies + j
   pub few : contacts t ≤ 2 ^ 24 + j
   pub rest : pass touch n i (n - j) j t ≡ pass touch n i (n - suc i) (suc i) t₀
 
@@ -36,7 +37,7 @@ pass-step touch n i j t l = rw (e, add-one j)
     e = omega arith
 
 module _ {touch : ℕ → ℕ → Bool} {n i : ℕ} {t₀ : List ℕ} where
-  pub run-first : n ≤ 4096 → words n ≤ length t₀ → i < n → Ready n t₀ → Run touch n i t₀ t₀ (i + 1)
+  pub run-first : n ≤ maxCopies → words n ≤ length t₀ → i < n → Ready n t₀ → Run touch n i t₀ t₀ (i + 1)
   run-first m h l r =
       record {
         ahead = omega arith;
@@ -94,15 +95,15 @@ module _ {touch : ℕ → ℕ → Bool} {n i : ℕ} {t₀ : List ℕ} where
         rest = sym (pass-step touch n i j t l ∙ ap (λ (b : Bool). pass touch n i (n - (j + 1)) (j + 1) (cond b (contact n t i j) t)) e) ∙ r .rest;
       }
 
-  pub run-last : {t : List ℕ} {j : ℕ} → Run touch n i t₀ t j → n ≤ j → set t (2 + n + n + i) 1 ≡ rowTable touch n i t₀
+  pub run-last : {t : List ℕ} {j : ℕ} → Run touch n i t₀ t j → n ≤ j → set t (markAt n i) 1 ≡ rowTable touch n i t₀
   unfolding rowTable pass
   run-last {t} {j} r l =
       let e : n - j ≡ 0 = omega arith in
-      ap (λ (x : List ℕ). set x (2 + n + n + i) 1) (sym (ap (λ (m : ℕ). pass touch n i m j t) e) ∙ r .rest)
+      ap (λ (x : List ℕ). set x (markAt n i) 1) (sym (ap (λ (m : ℕ). pass touch n i m j t) e) ∙ r .rest)
 
   -- what `add_contact` requires
-  pub run-asks : {t : List ℕ} {j : ℕ} → Run touch n i t₀ t j → n ≤ 4096 → j < n
-      → ((n ≤ 4096) × (words n ≤ length t) × (i < j) × (j < n))
+  pub run-asks : {t : List ℕ} {j : ℕ} → Run touch n i t₀ t j → n ≤ maxCopies → j < n
+      → ((n ≤ maxCopies) × (words n ≤ length t) × (i < j) × (j < n))
       × ((soundParents (parents n t) ≡ true) × ((degree n t i < 2 ^ 31) × (degree n t j < 2 ^ 31) × (contacts t < 2 ^ 31)))
   run-asks {t} {j} r m l = (
     (m, r .long, r .ahead, l),

@@ -1,88 +1,80 @@
 -- What Row answers and leaves, test by test. Assumes nothing.
 use mathlib.Core.Path.{_≡_, sym, ap, _∙_}
 use mathlib.Core.Bool.{Bool, true, false, cond, not}
-use mathlib.Core.List.{List, []}
+use mathlib.Core.List.{List}
 use Prim.Native.Nat.{ℕ, _≤_, _<_}
 use native.Mathlib.Omega.{arith}
 use lib.ListN.{length}
 use lib.Dec.{eqb, ltb, leb}
-use lib.Ieee.{Float}
 use borrow.Author.Tests.{eq-eqb, ne-eqb, lt-ltb, le-ltb, le-leb, lt-leb}
-use Rattle.cell.specs.declared.Cell.{Cell}
-use Rattle.cell.specs.declared.Answer.the-variants.{Accepted, Refused}
-use Rattle.cell.specs.Refusals.{Refusal, firstRefusal, answerOf}
-use Rattle.cell.proofs.FirstRefusal.{append-hit, append-skip}
-use Rattle.cell.proofs.Tables.{at-refusal, at-none}
-use Rattle.pick_lists.specs.Sound.{copiesIn, soundLists}
-use Rattle.pick_lists.specs.Input.{inputRefusals}
+use Rattle.base.specs.declared.Answer.the-variants.{Accepted, Refused}
+use Rattle.base.specs.Refusals.{Refusal, firstRefusal, answerOf}
+use Rattle.base.proofs.FirstRefusal.{append-hit, append-skip, at-refusal, at-none}
+use Rattle.pick_lists.specs.Sound.{copies}
+use Rattle.pick_lists.specs.Input.{Input, inputRefusals}
 use Rattle.pick_lists.proofs.SoundLists.{Lists, sound-lists}
-use Rattle.pick_lists.proofs.InputRefusals.{input-numbered, input-accepted}
+use Rattle.pick_lists.proofs.InputRefusals.{input-numbered, sound-input}
 use Rattle.touch.specs.Touch.{copiesTouch}
 use Rattle.cluster_table.specs.Table.{mark, words, soundTable}
-use Rattle.clusters.specs.Answers.{rowTable, tableRefusals, rowRefusal, rowLeaves}
+use Rattle.clusters.specs.Answers.{rowTable, rowTableRefusals, rowRefusal, rowAfter}
 use Rattle.clusters.proofs.Refusals.{table-chain}
 
 -- input that nothing refuses has sound pick lists
-pub input-sound : (c : Cell) (xs : List Float) (starts picks : List ℕ) (r : ℕ) → r ≡ firstRefusal (inputRefusals c xs [] starts picks) → r ≡ 0
-    → soundLists xs starts picks ≡ true
-input-sound c xs starts picks r found none = input-accepted c xs [] starts picks (sym found ∙ none) .1
+pub input-lists : (f : Input) (r : ℕ) → r ≡ firstRefusal (inputRefusals f) → r ≡ 0 → Lists (f .solutes) (f .starts) (f .picks)
+input-lists f r found none = sound-lists (f .solutes) (f .starts) (f .picks) (sound-input f r found none)
 
-pub input-lists : (c : Cell) (xs : List Float) (starts picks : List ℕ) (r : ℕ) → r ≡ firstRefusal (inputRefusals c xs [] starts picks) → r ≡ 0
-    → Lists xs starts picks
-input-lists c xs starts picks r found none = sound-lists xs starts picks (input-sound c xs starts picks r found none)
-
-module _ (c : Cell) (xs : List Float) (starts picks t : List ℕ) (i : ℕ) where
+module _ (f : Input) (t : List ℕ) (i : ℕ) where
   abbrev n : ℕ
-  n = copiesIn starts
+  n = copies (f .starts)
 
   inputs : List Refusal
-  inputs = inputRefusals c xs [] starts picks
+  inputs = inputRefusals f
 
   written : List ℕ
-  written = rowTable (copiesTouch c xs starts picks) (copiesIn starts) i t
+  written = rowTable (copiesTouch f) (copies (f .starts)) i t
 
-  refused : (r : ℕ) → (r ≡ 0 → ⊥) → rowRefusal c xs starts picks t i ≡ r → (Refused r ≡ answerOf (rowRefusal c xs starts picks t i)) × (t ≡ rowLeaves c xs starts picks t i)
-  unfolding rowLeaves written
+  refused : (r : ℕ) → (r ≡ 0 → ⊥) → rowRefusal f t i ≡ r → (Refused r ≡ answerOf (rowRefusal f t i)) × (t ≡ rowAfter f t i)
+  unfolding rowAfter written
   refused r m e =
-      (sym (ap answerOf e ∙ at-refusal r Accepted (Refused r) m), sym (at-refusal (rowRefusal c xs starts picks t i) written t (λ z. m (sym e ∙ z))))
+      (sym (ap answerOf e ∙ at-refusal r Accepted (Refused r) m), sym (at-refusal (rowRefusal f t i) written t (λ z. m (sym e ∙ z))))
 
   -- the tests as the code makes them: r is the first refusal of the input
-  module _ (r : ℕ) (found : r ≡ firstRefusal (inputRefusals c xs [] starts picks)) where
+  module _ (r : ℕ) (found : r ≡ firstRefusal (inputRefusals f)) where
     -- 1, 2, 3, 4, 15 and 8
-    pub row-input : (r ≡ 0 → ⊥) → (Refused r ≡ answerOf (rowRefusal c xs starts picks t i)) × (t ≡ rowLeaves c xs starts picks t i)
+    pub row-input : (r ≡ 0 → ⊥) → (Refused r ≡ answerOf (rowRefusal f t i)) × (t ≡ rowAfter f t i)
     unfolding rowRefusal inputs
     row-input m =
-        refused r m (append-hit inputs (tableRefusals (copiesIn starts) t i) (input-numbered c xs [] starts picks) (λ z. m (found ∙ z)) ∙ sym found)
+        refused r m (append-hit inputs (rowTableRefusals (copies (f .starts)) t i) (input-numbered f) (λ z. m (found ∙ z)) ∙ sym found)
 
     module _ (none : r ≡ 0) where
       -- the table decides
-      chain : rowRefusal c xs starts picks t i
+      chain : rowRefusal f t i
           ≡ cond (ltb (length t) (words n)) 7 (cond (not (soundTable n t)) 9 (cond (leb n i) 10 (cond (eqb (mark n t i) 1) 11 0)))
       unfolding rowRefusal inputs
       chain =
-          append-skip inputs (tableRefusals n t i) (input-numbered c xs [] starts picks) (sym found ∙ none) ∙ table-chain n t i
+          append-skip inputs (rowTableRefusals n t i) (input-numbered f) (sym found ∙ none) ∙ table-chain n t i
 
-      pub row-short : length t < words n → (Refused 7 ≡ answerOf (rowRefusal c xs starts picks t i)) × (t ≡ rowLeaves c xs starts picks t i)
+      pub row-short : length t < words n → (Refused 7 ≡ answerOf (rowRefusal f t i)) × (t ≡ rowAfter f t i)
       row-short l = refused 7 (λ z. omega arith) (chain ∙ rw (lt-ltb (length t) (words n) l))
 
       module _ (long : words n ≤ length t) (b : Bool) (tested : b ≡ soundTable n t) where
-        pub row-unsound : not b ≡ true → (Refused 9 ≡ answerOf (rowRefusal c xs starts picks t i)) × (t ≡ rowLeaves c xs starts picks t i)
+        pub row-unsound : not b ≡ true → (Refused 9 ≡ answerOf (rowRefusal f t i)) × (t ≡ rowAfter f t i)
         row-unsound u = refused 9 (λ z. omega arith) (chain ∙ rw (le-ltb (length t) (words n) long, ← tested, u))
 
         module _ (sound : not b ≡ false) where
-          pub row-beyond : n ≤ i → (Refused 10 ≡ answerOf (rowRefusal c xs starts picks t i)) × (t ≡ rowLeaves c xs starts picks t i)
+          pub row-beyond : n ≤ i → (Refused 10 ≡ answerOf (rowRefusal f t i)) × (t ≡ rowAfter f t i)
           row-beyond h = refused 10 (λ z. omega arith) (chain ∙ rw (le-ltb (length t) (words n) long, ← tested, sound, le-leb n i h))
 
           module _ (within : i < n) where
-            pub row-marked : mark n t i ≡ 1 → (Refused 11 ≡ answerOf (rowRefusal c xs starts picks t i)) × (t ≡ rowLeaves c xs starts picks t i)
+            pub row-marked : mark n t i ≡ 1 → (Refused 11 ≡ answerOf (rowRefusal f t i)) × (t ≡ rowAfter f t i)
             row-marked m =
                 refused 11 (λ z. omega arith)
                 (chain ∙ rw (le-ltb (length t) (words n) long, ← tested, sound, lt-leb n i within, eq-eqb (mark n t i) 1 m))
 
-            accepted : (mark n t i ≡ 1 → ⊥) → rowRefusal c xs starts picks t i ≡ 0
+            accepted : (mark n t i ≡ 1 → ⊥) → rowRefusal f t i ≡ 0
             accepted m = chain ∙ rw (le-ltb (length t) (words n) long, ← tested, sound, lt-leb n i within, ne-eqb (mark n t i) 1 m)
 
-            pub row-taken : (mark n t i ≡ 1 → ⊥) → (x : List ℕ) → x ≡ rowTable (copiesTouch c xs starts picks) n i t
-                → (Accepted ≡ answerOf (rowRefusal c xs starts picks t i)) × (x ≡ rowLeaves c xs starts picks t i)
-            unfolding rowLeaves written
-            row-taken m x e = (sym (ap answerOf (accepted m)), e ∙ sym (at-none (rowRefusal c xs starts picks t i) written t (accepted m)))
+            pub row-taken : (mark n t i ≡ 1 → ⊥) → (x : List ℕ) → x ≡ rowTable (copiesTouch f) n i t
+                → (Accepted ≡ answerOf (rowRefusal f t i)) × (x ≡ rowAfter f t i)
+            unfolding rowAfter written
+            row-taken m x e = (sym (ap answerOf (accepted m)), e ∙ sym (at-none (rowRefusal f t i) written t (accepted m)))

@@ -10,11 +10,11 @@ use lib.ListN.{set, length-set}
 use lib.Seq.{getD-set-same, getD-set-other}
 use lib.Dec.{eqb, ltb}
 use borrow.Author.Tests.{eq-eqb, ne-eqb, ltb-true, lt-ltb, le-ltb}
-use Rattle.cluster_table.specs.Table.{parents, contact}
+use Rattle.cluster_table.specs.Table.{parents, contact, header, degreeAt, markAt}
 use Rattle.clusters.specs.Answers.{pass, rowTable}
 use Rattle.clusters.specs.Graph.{graph, contactGraph}
 use Rattle.union_find.proofs.Forest.{decide}
-use Rattle.union_find.proofs.Ranges.{and-left, and-right, and-false}
+use Rattle.base.proofs.Tests.{and-left, and-right, and-false, same-eqb}
 use Rattle.cluster_table.proofs.Parts.{parents-set}
 use Rattle.clusters.proofs.Chains.{Adds}
 use Rattle.clusters.proofs.Holds.{Holds, contact-holds}
@@ -25,9 +25,6 @@ with-row i acc k = eqb i k || acc k
 
 pub holds-same : {n : ℕ} {g h : ℕ → ℕ → Bool} {acc : ℕ → Bool} {t : List ℕ} → Holds n g acc t → ((a b : ℕ) → g a b ≡ h a b) → Holds n h acc t
 holds-same {n} {g} {h} {acc} {t} s e = subst (λ (f : ℕ → ℕ → Bool). Holds n f acc t) (fun-ext (λ a. fun-ext (λ b. e a b))) s
-
-eqb-refl : (x : ℕ) → eqb x x ≡ true
-eqb-refl x = eq-eqb x x refl
 
 pub ltb-skip : (b j : ℕ) → (b ≡ j → ⊥) → ltb b j ≡ ltb b (suc j)
 ltb-skip b j n = go (decLt b j)
@@ -75,7 +72,7 @@ module _ (touch : ℕ → ℕ → Bool) (n : ℕ) where
     unfolding stage graph
     stage-last a b =
         decide a i
-        (λ d. rw (d, eqb-refl i) (again (ltb b n) (ltb i b) (touch i b)))
+        (λ d. rw (d, same-eqb i) (again (ltb b n) (ltb i b) (touch i b)))
         (λ m. rw (ne-eqb a i m, ne-eqb i a (λ d. m (sym d))))
 
     stage-inside : (J a b : ℕ) → stage J a b ≡ true → (a < b) × (b < n)
@@ -103,8 +100,8 @@ module _ (touch : ℕ → ℕ → Bool) (n : ℕ) where
           low = l;
           high = h;
           inside = stage-inside j;
-          fresh = rw (eqb-refl i, le-ltb j j (le-refl j));
-          added = rw (eqb-refl i, lt-ltb j (suc j) (le-refl (suc j))) (full-at j l h ∙ e);
+          fresh = rw (same-eqb i, le-ltb j j (le-refl j));
+          added = rw (same-eqb i, lt-ltb j (suc j) (le-refl (suc j))) (full-at j l h ∙ e);
           old = stage-old j;
         }
 
@@ -130,21 +127,21 @@ module _ (touch : ℕ → ℕ → Bool) (n : ℕ) where
     row-holds l e s = holds-same (passes (n - suc i) (suc i) (le-refl (suc i)) (omega arith) (holds-same s (stage-first e))) stage-last
 
 -- the mark of row i
-pub mark-holds : {n : ℕ} {g : ℕ → ℕ → Bool} {acc : ℕ → Bool} {t : List ℕ} (i : ℕ) → i < n → Holds n g acc t → Holds n g (with-row i acc) (set t (2 + n + n + i) 1)
+pub mark-holds : {n : ℕ} {g : ℕ → ℕ → Bool} {acc : ℕ → Bool} {t : List ℕ} (i : ℕ) → i < n → Holds n g acc t → Holds n g (with-row i acc) (set t (markAt n i) 1)
 mark-holds {n} {g} {acc} {t} i l s =
     let long = s .long in
-    let same : parents n (set t (2 + n + n + i) 1) ≡ parents n t = ap (λ (k : ℕ). parents n (set t k 1)) (add-assoc (2 + n) n i) ∙ parents-set n t (n + i) 1 in
+    let same : parents n (set t (markAt n i) 1) ≡ parents n t = ap (λ (k : ℕ). parents n (set t k 1)) (add-assoc (header + n) n i) ∙ parents-set n t (n + i) 1 in
     record {
       long = rw (length-set) long;
-      own = getD-set-other t (2 + n + n + i) 0 1 0 (λ e. omega arith) ∙ s .own;
+      own = getD-set-other t (markAt n i) 0 1 0 (λ e. omega arith) ∙ s .own;
       sound = rw same (s .sound);
       sets = rw same (s .sets);
-      degrees = λ k h. getD-set-other t (2 + n + n + i) (2 + n + k) 1 0 (λ e. omega arith) ∙ s .degrees k h;
-      contacts-are = getD-set-other t (2 + n + n + i) 1 1 0 (λ e. omega arith) ∙ s .contacts-are;
+      degrees = λ k h. getD-set-other t (markAt n i) (degreeAt n k) 1 0 (λ e. omega arith) ∙ s .degrees k h;
+      contacts-are = getD-set-other t (markAt n i) 1 1 0 (λ e. omega arith) ∙ s .contacts-are;
       marks = λ k h.
           decide i k
-          (λ e. rw (eq-eqb i k e, sym e) (getD-set-same t (2 + n + n + i) 1 0 (omega arith)))
-          (λ m. rw (ne-eqb i k m) (getD-set-other t (2 + n + n + i) (2 + n + n + k) 1 0 (λ e. m (omega arith)) ∙ s .marks k h));
+          (λ e. rw (eq-eqb i k e, sym e) (getD-set-same t (markAt n i) 1 0 (omega arith)))
+          (λ m. rw (ne-eqb i k m) (getD-set-other t (markAt n i) (markAt n k) 1 0 (λ e. m (omega arith)) ∙ s .marks k h));
       inside = s .inside;
     }
 

@@ -4,10 +4,10 @@ use mathlib.Core.Bool.{Bool, true, false, _||_}
 use Prim.Native.Nat.{ℕ, zero, suc, _+_, _-_, _*_, _≤_, _<_, zero-le}
 use native.Mathlib.Nat.{le-refl, le-div-iff-mul-le, suc-mul, zero-lt-suc}
 use native.Mathlib.Omega.{arith}
-use Rattle.union_find.specs.Range.{bit, count, total}
+use Rattle.base.specs.Range.{bit, count, total}
 use Rattle.cluster_table.specs.Table.{pairs}
 use Rattle.clusters.specs.Graph.{contactsOf, degreeOf, either}
-use Rattle.union_find.proofs.Ranges.{count-lt}
+use Rattle.base.proofs.Ranges.{count-lt}
 
 -- only numbers above i pass
 pub count-above : (n i : ℕ) (f : ℕ → Bool) → ((k : ℕ) → f k ≡ true → i < k) → count n f ≤ n - suc i
@@ -56,10 +56,6 @@ tri-twice (suc (suc n)) =
   where
     one-less : (k : ℕ) → suc k - 1 ≡ k
     one-less k = omega arith
-
-zero-tri : tri 0 ≡ 0
-unfolding tri
-zero-tri = refl
 
 pub contacts-few : (n : ℕ) (g : ℕ → ℕ → Bool) → ((i j : ℕ) → g i j ≡ true → (i < j) × (j < n)) → contactsOf n g ≤ pairs n
 unfolding contactsOf

@@ -6,16 +6,16 @@ use Prim.Native.Nat.{ℕ, zero, suc, _+_, _-_}
 use lib.ListN.{length, set}
 use lib.Dec.{eqb, leb, ltb}
 use lib.Ieee.{Float}
-use Rattle.cell.specs.declared.Cell.{Cell}
-use Rattle.cell.specs.Refusals.{Refusal, refuse, firstRefusal}
-use Rattle.frame_limits.specs.Limits.{maxCopies}
-use Rattle.cell.specs.Tables.{unlessRefused}
-use Rattle.pick_lists.specs.Sound.{copiesIn}
-use Rattle.pick_lists.specs.Input.{inputRefusals}
+use Rattle.base.specs.declared.Answer.{Answer}
+use Rattle.base.specs.Refusals.{Refusal, refuse, firstRefusal, answerOf}
+use Rattle.base.specs.Limits.{maxCopies}
+use Rattle.base.specs.Tables.{unlessRefused}
+use Rattle.pick_lists.specs.Sound.{copies}
+use Rattle.pick_lists.specs.Input.{Input, inputRefusals}
 use Rattle.touch.specs.Touch.{copiesTouch}
-use Rattle.union_find.specs.Range.{allBelow}
+use Rattle.base.specs.Range.{allBelow}
 use Rattle.cluster_table.specs.declared.ClusterFractions.{ClusterFractions}
-use Rattle.cluster_table.specs.Table.{copies, mark, words, opened, contact, soundTable}
+use Rattle.cluster_table.specs.Table.{header, tableCopies, mark, markAt, words, opened, contact, soundTable}
 use Rattle.cluster_table.specs.Fractions.{tableFractions}
 use Rattle.clusters.specs.declared.Closing.{Closing}
 use Rattle.clusters.specs.declared.Closing.the-variants.{Fractions, Refused}
@@ -27,9 +27,9 @@ closeNumber (Refused n) = n
 closeNumber (Fractions largest contacted pair) = 0
 
 -- largest, contacted and pair fraction; none with a refusal
-abbrev pub fractionsOf : Closing → List Float
-fractionsOf (Refused n) = []
-fractionsOf (Fractions largest contacted pair) = largest ∷ contacted ∷ pair ∷ []
+abbrev pub closeValues : Closing → List Float
+closeValues (Refused n) = []
+closeValues (Fractions largest contacted pair) = largest ∷ contacted ∷ pair ∷ []
 
 -- ---- Open
 unfoldable pub openRefusals : ℕ → List ℕ → List Refusal
@@ -39,9 +39,13 @@ unfoldable pub openRefusal : ℕ → List ℕ → ℕ
 unfolding openRefusals firstRefusal
 openRefusal n t = firstRefusal (openRefusals n t)
 
-unfoldable pub openLeaves : ℕ → List ℕ → List ℕ
+-- what Open for n copies answers on a table
+abbrev pub openAnswer : ℕ → List ℕ → Answer
+openAnswer n t = answerOf (openRefusal n t)
+
+unfoldable pub openAfter : ℕ → List ℕ → List ℕ
 unfolding openRefusal opened
-openLeaves n t = unlessRefused (openRefusal n t) (opened n t) t
+openAfter n t = unlessRefused (openRefusal n t) (opened n t) t
 
 -- ---- Row
 -- k copies from j on are tested against i, in order
@@ -53,31 +57,35 @@ pass touch n i (suc k) j t = pass touch n i k (suc j) (cond (touch i j) (contact
 -- row i: j = i + 1 .. n - 1 are tested, and mark i becomes 1
 unfoldable pub rowTable : (ℕ → ℕ → Bool) → ℕ → ℕ → List ℕ → List ℕ
 unfolding pass
-rowTable touch n i t = set (pass touch n i (n - suc i) (suc i) t) (2 + n + n + i) 1
+rowTable touch n i t = set (pass touch n i (n - suc i) (suc i) t) (markAt n i) 1
 
 -- 7, 9, 10 and 11: what Row i asks of a table of n copies
-unfoldable pub tableRefusals : ℕ → List ℕ → ℕ → List Refusal
+unfoldable pub rowTableRefusals : ℕ → List ℕ → ℕ → List Refusal
 unfolding soundTable
-tableRefusals n t i =
+rowTableRefusals n t i =
     refuse 7 (ltb (length t) (words n)) ∷ refuse 9 (not (soundTable n t)) ∷ refuse 10 (leb n i) ∷ refuse 11 (eqb (mark n t i) 1) ∷ []
 
-unfoldable pub rowRefusal : Cell → List Float → List ℕ → List ℕ → List ℕ → ℕ → ℕ
-unfolding inputRefusals tableRefusals firstRefusal
-rowRefusal c xs starts picks t i = firstRefusal (inputRefusals c xs [] starts picks ++ tableRefusals (copiesIn starts) t i)
+unfoldable pub rowRefusal : Input → List ℕ → ℕ → ℕ
+unfolding inputRefusals rowTableRefusals firstRefusal
+rowRefusal f t i = firstRefusal (inputRefusals f ++ rowTableRefusals (copies (f .starts)) t i)
 
-unfoldable pub rowLeaves : Cell → List Float → List ℕ → List ℕ → List ℕ → ℕ → List ℕ
+-- what Row i answers on a table
+abbrev pub rowAnswer : Input → List ℕ → ℕ → Answer
+rowAnswer f t i = answerOf (rowRefusal f t i)
+
+unfoldable pub rowAfter : Input → List ℕ → ℕ → List ℕ
 unfolding rowRefusal rowTable copiesTouch
-rowLeaves c xs starts picks t i = unlessRefused (rowRefusal c xs starts picks t i) (rowTable (copiesTouch c xs starts picks) (copiesIn starts) i t) t
+rowAfter f t i = unlessRefused (rowRefusal f t i) (rowTable (copiesTouch f) (copies (f .starts)) i t) t
 
 -- ---- Close: the table alone, with its own n
 unfoldable pub closeRefusals : List ℕ → List Refusal
 unfolding soundTable
 closeRefusals t =
-    refuse 7 (ltb (length t) 2)
-    ∷ refuse 7 (ltb (length t) (words (copies t)))
-    ∷ refuse 9 (ltb maxCopies (copies t))
-    ∷ refuse 9 (not (soundTable (copies t) t))
-    ∷ refuse 12 (not (allBelow (copies t) (λ i. eqb (mark (copies t) t i) 1)))
+    refuse 7 (ltb (length t) header)
+    ∷ refuse 7 (ltb (length t) (words (tableCopies t)))
+    ∷ refuse 9 (ltb maxCopies (tableCopies t))
+    ∷ refuse 9 (not (soundTable (tableCopies t) t))
+    ∷ refuse 12 (not (allBelow (tableCopies t) (λ i. eqb (mark (tableCopies t) t i) 1)))
     ∷ []
 
 unfoldable pub closeRefusal : List ℕ → ℕ

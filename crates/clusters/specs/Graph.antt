@@ -5,7 +5,7 @@ use mathlib.Core.Bool.{Bool, true, _||_, _&&_}
 use mathlib.Core.Logic.{_↔_}
 use Prim.Native.Nat.{ℕ, _≤_, _<_}
 use lib.Dec.{ltb}
-use Rattle.union_find.specs.Range.{count, total}
+use Rattle.base.specs.Range.{count, total}
 
 -- a contact, either way round
 abbrev pub either : (ℕ → ℕ → Bool) → ℕ → ℕ → Bool

@@ -5,15 +5,17 @@ ghost use mathlib.Core.Bool.{true};
 ghost use mathlib.Core.List.{[]};
 ghost use Prim.Native.Nat.{_<_, _≤_};
 ghost use lib.ListN.{length};
-ghost use Rattle.cell.specs.Refusals.{answerOf, firstRefusal};
-ghost use Rattle.pick_lists.specs.Sound.{copiesIn};
-ghost use Rattle.pick_lists.specs.Input.{inputRefusals};
+ghost use Rattle.base.specs.Entry.{old};
+ghost use Rattle.base.specs.Refusals.{firstRefusal};
+ghost use Rattle.pick_lists.specs.Sound.{copies};
+ghost use Rattle.pick_lists.specs.Input.{inputRefusals, given};
 ghost use Rattle.touch.specs.Touch.{copiesTouch};
 ghost use Rattle.cluster_table.specs.Table.{words, soundTable};
-ghost use Rattle.clusters.specs.Answers.{rowTable, openRefusal, openLeaves, rowRefusal, rowLeaves, closeAnswer};
-use cell::Answer;
+ghost use Rattle.clusters.specs.Answers.{rowTable, openAnswer, openAfter, rowAnswer, rowAfter, closeAnswer};
+use base::Answer;
+use base::MAX_COPIES;
 use cell::Cell;
-use frame_limits::MAX_COPIES;
+use cluster_table::HEADER;
 
 // What Close answers: the largest, contacted and pair fractions.
 pub enum Closing {
@@ -21,23 +23,17 @@ pub enum Closing {
     Refused(u32),
 }
 
-fn wide(x: u32) -> usize
-    ensures { λ r. ⌜ r ≡ x ⌝ }
-{
-    x as usize
-}
-
 // ---- Open
 
 // Open: 5, 7, or a table of n copies.
 pub fn open(table: &mut [u32], n: usize) -> Answer
-    ensures answer { λ r. ⌜ r ≡ answerOf (openRefusal n (now (table .entry))) ⌝ }
-    ensures after { λ r. ⌜ now (table .exit) ≡ openLeaves n (now (table .entry)) ⌝ }
+    ensures answer { λ r. ⌜ r ≡ openAnswer n (old table) ⌝ }
+    ensures after { λ r. ⌜ now (table .exit) ≡ openAfter n (old table) ⌝ }
 {
     if n > MAX_COPIES {
         return Answer::Refused(5);
     }
-    if table.len() < 2 + 3 * n {
+    if table.len() < HEADER + 3 * n {
         return Answer::Refused(7);
     }
     cluster_table::open_table(table, n);
@@ -47,7 +43,7 @@ pub fn open(table: &mut [u32], n: usize) -> Answer
 // ---- Row
 
 // Row i of input that nothing refuses on a sound table: what Row's tests establish is asked, and nothing is tested again. The box of copy i and the
-// cell's gates settle most copies (crate `boxes`).
+// cell's gates settle most copies (crate `spans`).
 pub fn scan_row(
     cell: Cell,
     solutes: &[f32],
@@ -56,19 +52,20 @@ pub fn scan_row(
     table: &mut [u32],
     i: usize,
 )
-    requires { ⌜ firstRefusal (inputRefusals cell (now solutes) [] (now starts) (now picks)) ≡ 0 ⌝ }
-    requires { ⌜ (words (copiesIn (now starts)) ≤ length (now table)) × (soundTable (copiesIn (now starts)) (now table) ≡ true) × (i < copiesIn (now starts)) ⌝ }
-    ensures { λ _. ⌜ now (table .exit) ≡ rowTable (copiesTouch cell (now (solutes .entry)) (now (starts .entry)) (now (picks .entry))) (copiesIn (now (starts .entry))) i (now (table .entry)) ⌝ }
+    requires { ⌜ firstRefusal (inputRefusals (given cell (now solutes) [] (now starts) (now picks))) ≡ 0 ⌝ }
+    requires { ⌜ (words (copies (now starts)) ≤ length (now table)) × (soundTable (copies (now starts)) (now table) ≡ true) × (i < copies (now starts)) ⌝ }
+    ensures { λ _. ⌜ now (table .exit) ≡ rowTable (copiesTouch (given cell (old solutes) [] (old starts) (old picks))) (copies (old starts)) i (old table) ⌝ }
 {
     let n = starts.len() - 1;
     let g = gates::gates_of(cell);
-    let s = boxes::span_of(solutes, pick_lists::copy_picks(starts, picks, i));
-    let mut j = boxes::next_close(g, solutes, starts, picks, s, i + 1);
+    let s = spans::span_of(solutes, pick_lists::copy_picks(starts, picks, i));
+    // Copies up to i had their own rows for this pair.
+    let mut j = spans::next_close(g, solutes, starts, picks, s, i + 1);
     while j < n {
-        if boxes::row_touch(cell, g, solutes, starts, picks, i, j) {
+        if spans::row_touch(cell, g, solutes, starts, picks, i, j) {
             cluster_table::add_contact(table, n, i, j);
         }
-        j = boxes::next_close(g, solutes, starts, picks, s, j + 1);
+        j = spans::next_close(g, solutes, starts, picks, s, j + 1);
     }
     cluster_table::set_mark(table, n, i);
 }
@@ -82,15 +79,15 @@ pub fn row(
     table: &mut [u32],
     i: usize,
 ) -> Answer
-    ensures answer { λ r. ⌜ r ≡ answerOf (rowRefusal cell (now (solutes .entry)) (now (starts .entry)) (now (picks .entry)) (now (table .entry)) i) ⌝ }
-    ensures after { λ r. ⌜ now (table .exit) ≡ rowLeaves cell (now (solutes .entry)) (now (starts .entry)) (now (picks .entry)) (now (table .entry)) i ⌝ }
+    ensures answer { λ r. ⌜ r ≡ rowAnswer (given cell (old solutes) [] (old starts) (old picks)) (old table) i ⌝ }
+    ensures after { λ r. ⌜ now (table .exit) ≡ rowAfter (given cell (old solutes) [] (old starts) (old picks)) (old table) i ⌝ }
 {
     let refusal = pick_lists::input_refusal(cell, solutes, &solutes[..0], starts, picks);
     if refusal != 0 {
         return Answer::Refused(refusal);
     }
     let n = starts.len() - 1;
-    if table.len() < 2 + 3 * n {
+    if table.len() < HEADER + 3 * n {
         return Answer::Refused(7);
     }
     if !cluster_table::is_sound(table, n) {
@@ -99,7 +96,7 @@ pub fn row(
     if i >= n {
         return Answer::Refused(10);
     }
-    if table[2 + n + n + i] == 1 {
+    if table[HEADER + n + n + i] == 1 {
         return Answer::Refused(11);
     }
     scan_row(cell, solutes, starts, picks, table, i);
@@ -110,13 +107,14 @@ pub fn row(
 
 // Close: 7, 9, 12 in this order, or the three fractions; it writes nothing.
 pub fn close(table: &[u32]) -> Closing
-    ensures answer { λ r. ⌜ r ≡ closeAnswer (now (table .entry)) ⌝ }
+    ensures answer { λ r. ⌜ r ≡ closeAnswer (old table) ⌝ }
 {
-    if table.len() < 2 {
+    if table.len() < HEADER {
         return Closing::Refused(7);
     }
-    let n = wide(table[0]);
-    if table.len() < 2 + 3 * n {
+    // The table says its own number of copies; nothing else is given.
+    let n = base::wide(table[0]);
+    if table.len() < HEADER + 3 * n {
         return Closing::Refused(7);
     }
     if MAX_COPIES < n {

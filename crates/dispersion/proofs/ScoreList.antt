@@ -8,16 +8,17 @@ use native.Mathlib.Omega.{arith}
 use lib.ListN.{length, drop, length-append, List·getD-append}
 use lib.Ieee.{Float, nan, binary32, binary64, add, div, le, ofBits}
 use borrow.Author.Tests.{lt-ltb, le-ltb}
+use Rattle.pick_lists.specs.Input.{Input}
+use Rattle.base.specs.Limits.{maxCopies}
 use Rattle.cell.specs.declared.Vec3.{Vec3}
-use Rattle.cell.specs.declared.Cell.{Cell}
 use Rattle.cell.specs.Cell.{epsilon, extentOf, distance2, pointAt}
-use Rattle.cell.specs.Tables.{over}
-use Rattle.pick_lists.specs.Sound.{copiesIn}
+use Rattle.base.specs.Tables.{over}
+use Rattle.pick_lists.specs.Sound.{copies}
 use Rattle.centers.specs.Centers.{centersOf}
 use Rattle.dispersion.specs.Dispersion.{clamped, expectedOf, rowSum, pairSum, observedOf, scoreOf, dispersionOf}
 use Rattle.centers.proofs.CenterList.{centers-length}
 
-pub few-pairs : (n : ℕ) → n ≤ 4096 → n * (n - 1) ≤ 4096 * 4095
+pub few-pairs : (n : ℕ) → n ≤ maxCopies → n * (n - 1) ≤ maxCopies * 4095
 few-pairs n h =
     let g : n - 1 ≤ 4095 = omega arith in
     mul-le-mul h g
@@ -50,14 +51,14 @@ module _ (e : Vec3) (cs t : List Float) (n : ℕ) (long : n * 3 ≤ length cs) w
   score-append = rw (pair-append n 0 _ (omega arith))
 
 -- ---- the list u that `put_centers` leaves: the centers before what stood there
-module _ (c : Cell) (xs : List Float) (starts picks : List ℕ) (t u : List Float) (left : u ≡ over (centersOf c xs starts picks) t) where
-  pub listed-room : copiesIn starts * 3 ≤ length u
+module _ (f : Input) (t u : List Float) (left : u ≡ over (centersOf f) t) where
+  pub listed-room : copies (f .starts) * 3 ≤ length u
   unfolding over
-  listed-room = rw left (simp length-append (omega (arith, centers-length c xs starts picks)))
+  listed-room = rw left (simp length-append (omega (arith, centers-length f)))
 
-  pub listed-score : scoreOf (extentOf c) u (copiesIn starts) ≡ dispersionOf c xs starts picks
+  pub listed-score : scoreOf (extentOf (f .cell)) u (copies (f .starts)) ≡ dispersionOf f
   unfolding over dispersionOf
-  listed-score = rw left (score-append (extentOf c) (centersOf c xs starts picks) (drop (length (centersOf c xs starts picks)) t) (copiesIn starts) (omega (arith, centers-length c xs starts picks)))
+  listed-score = rw left (score-append (extentOf (f .cell)) (centersOf f) (drop (length (centersOf f)) t) (copies (f .starts)) (omega (arith, centers-length f)))
 
 -- ---- the cases of the score
 module _ (e : Vec3) (cs : List Float) (n : ℕ) where

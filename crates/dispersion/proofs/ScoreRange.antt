@@ -14,6 +14,7 @@ use lib.Ieee.Fits.{div-fits}
 use lib.Ieee.Positive.{positive, positive-of-value}
 use lib.Ieee.Scale.{finite}
 use borrow.Author.Tests.{ltb-false, le-ltb}
+use Rattle.base.specs.Limits.{maxCopies}
 use Rattle.floats.specs.Root.{sqrtOf}
 use Rattle.floats.proofs.Bounds.{exact-pow}
 use Rattle.floats.proofs.Signs.{plain}
@@ -21,13 +22,12 @@ use Rattle.floats.proofs.Monotone.{square-plain}
 use Rattle.floats.proofs.Quotients.{within-finite, div-within}
 use Rattle.floats.proofs.Signed.{to-test}
 use Rattle.cell.specs.declared.Vec3.{Vec3}
-use Rattle.cell.specs.declared.Cell.{Cell}
 use Rattle.cell.specs.Cell.{epsilon, extentOf, squared, minImage, minus, distance2, pointAt}
-use Rattle.cell.specs.Refusals.{firstRefusal}
+use Rattle.base.specs.Refusals.{firstRefusal}
 use Rattle.cell.proofs.Finite.{Sides, Around, squared-within, image-around, minus-around}
 use Rattle.frame_limits.proofs.FiniteFrame.{limited}
-use Rattle.pick_lists.specs.Sound.{copiesIn, pickList}
-use Rattle.pick_lists.specs.Input.{inputRefusals}
+use Rattle.pick_lists.specs.Sound.{copies, pickList}
+use Rattle.pick_lists.specs.Input.{Input, inputRefusals}
 use Rattle.pick_lists.proofs.SoundLists.{sound-lists}
 use Rattle.pick_lists.proofs.InputRefusals.{input-accepted}
 use Rattle.centers.specs.Centers.{centerOf, centersOf}
@@ -82,7 +82,7 @@ scored-clamp (fin false m e) p =
     none a b = omega arith
 
 -- the pairs of two centers or more
-pairs-positive : (n : ℕ) → 2 ≤ n → n ≤ 4096 → T (positive (ofInt binary64 (pos (n * (n - 1) / 2))))
+pairs-positive : (n : ℕ) → 2 ≤ n → n ≤ maxCopies → T (positive (ofInt binary64 (pos (n * (n - 1) / 2))))
 pairs-positive n some few =
     let one : 1 ≤ n - 1 = omega arith in
     let m = n * (n - 1) / 2 in
@@ -114,7 +114,7 @@ module _ (e : Vec3) (cs : List Float) (n : ℕ) (f : (i j : ℕ) → i < n → j
   pair-plain zero i s h p = p
   pair-plain (suc k) i s h p = pair-plain k (i + 1) (rowSum e cs i (n - (i + 1)) (i + 1) s) (omega arith) (row-plain i (n - (i + 1)) (i + 1) s (omega arith) (omega arith) p)
 
-  observed-plain : 2 ≤ n → n ≤ 4096 → T (plain (observedOf e cs n))
+  observed-plain : 2 ≤ n → n ≤ maxCopies → T (plain (observedOf e cs n))
   unfolding observedOf ofBits
   observed-plain some few =
       let sum = pairSum e cs n n 0 (ofBits binary64 0) in
@@ -145,7 +145,7 @@ above-positive (fin false zero e) p q h = absurd (true≢false (sym (is-true (le
     none a b = omega arith
 
 -- ---- the score
-pub score-scored : (e : Vec3) (cs : List Float) (n : ℕ) → n ≤ 4096 → Sides e → ((i j : ℕ) → i < n → j < n → T (plain (distance2 e (pointAt cs i) (pointAt cs j)))) → Scored (scoreOf e cs n)
+pub score-scored : (e : Vec3) (cs : List Float) (n : ℕ) → n ≤ maxCopies → Sides e → ((i j : ℕ) → i < n → j < n → T (plain (distance2 e (pointAt cs i) (pointAt cs j)))) → Scored (scoreOf e cs n)
 unfolding scoreOf
 score-scored e cs n few s f = by-count (ltb n 2) refl
   where
@@ -162,12 +162,12 @@ score-scored e cs n few s f = by-count (ltb n 2) refl
     by-count true h = scored-one
     by-count false h = by-expected (ltb-false n 2 h) (le (expectedOf e) epsilon) refl
 
-pub dispersion-scored : (c : Cell) (xs ws : List Float) (starts picks : List ℕ) → firstRefusal (inputRefusals c xs ws starts picks) ≡ 0 → Scored (dispersionOf c xs starts picks)
+pub dispersion-scored : (f : Input) → firstRefusal (inputRefusals f) ≡ 0 → Scored (dispersionOf f)
 unfolding dispersionOf
-dispersion-scored c xs ws starts picks h =
-    let ok = input-accepted c xs ws starts picks h in
-    let s = limited c xs ws (ok .0) .sides in
-    score-scored (extentOf c) (centersOf c xs starts picks) (copiesIn starts) (sound-lists xs starts picks (ok .1) .few) s
+dispersion-scored f h =
+    let ok = input-accepted f h in
+    let s = limited (f .cell) (f .solutes) (f .waters) (ok .0) .sides in
+    score-scored (extentOf (f .cell)) (centersOf f) (copies (f .starts)) (sound-lists (f .solutes) (f .starts) (f .picks) (ok .1) .few) s
     (λ i j a b.
-    rw (center-at c xs starts picks i a, center-at c xs starts picks j b)
-    (distance-plain (extentOf c) (centerOf c xs (pickList starts picks i)) (centerOf c xs (pickList starts picks j)) s (center-around c xs ws starts picks h i a) (center-around c xs ws starts picks h j b)))
+    rw (center-at f i a, center-at f j b)
+    (distance-plain (extentOf (f .cell)) (centerOf (f .cell) (f .solutes) (pickList (f .starts) (f .picks) i)) (centerOf (f .cell) (f .solutes) (pickList (f .starts) (f .picks) j)) s (center-around f h i a) (center-around f h j b)))

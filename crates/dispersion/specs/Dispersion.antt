@@ -7,20 +7,20 @@ use lib.IntN.{pos}
 use lib.Ieee.{Float, binary32, binary64, add, div, lt, le, ofInt, ofBits}
 use Rattle.floats.specs.Convert.{narrowOf}
 use Rattle.floats.specs.Root.{sqrtOf}
+use Rattle.floats.specs.Constants.{zero32, one32}
 use Rattle.cell.specs.declared.Vec3.{Vec3}
-use Rattle.cell.specs.declared.Cell.{Cell}
 use Rattle.cell.specs.Cell.{epsilon, extentOf, squared, distance2, pointAt}
-use Rattle.cell.specs.Refusals.{firstRefusal}
-use Rattle.cell.specs.Tables.{unlessRefused}
-use Rattle.pick_lists.specs.Sound.{copiesIn}
-use Rattle.pick_lists.specs.Input.{inputRefusals}
+use Rattle.base.specs.Refusals.{firstRefusal}
+use Rattle.base.specs.Tables.{unlessRefused}
+use Rattle.pick_lists.specs.Sound.{copies}
+use Rattle.pick_lists.specs.Input.{Input, inputRefusals}
 use Rattle.centers.specs.Centers.{centersOf}
 use Rattle.dispersion.specs.declared.Dispersed.{Dispersed}
 use Rattle.dispersion.specs.declared.Dispersed.the-variants.{Score, Refused}
 
 -- x to 0 .. 1
 unfoldable pub clamped : Float → Float
-clamped x = cond (lt x (ofBits binary32 0)) (ofBits binary32 0) (cond (lt (ofBits binary32 0x3f80_0000) x) (ofBits binary32 0x3f80_0000) x)
+clamped x = cond (lt x zero32) zero32 (cond (lt one32 x) one32 x)
 
 -- sqrt((ex * ex + ey * ey + ez * ez) / 12)
 unfoldable pub expectedOf : Vec3 → Float
@@ -46,30 +46,28 @@ observedOf e cs n = narrowOf binary32 (sqrtOf binary64 (div binary64 (pairSum e 
 unfoldable pub scoreOf : Vec3 → List Float → ℕ → Float
 unfolding expectedOf observedOf clamped
 scoreOf e cs n =
-    cond (ltb n 2) (ofBits binary32 0x3f80_0000)
-    (cond (le (expectedOf e) epsilon) (ofBits binary32 0) (clamped (div binary32 (observedOf e cs n) (expectedOf e))))
+    cond (ltb n 2) one32
+    (cond (le (expectedOf e) epsilon) zero32 (clamped (div binary32 (observedOf e cs n) (expectedOf e))))
 
-unfoldable pub dispersionOf : Cell → List Float → List ℕ → List ℕ → Float
+unfoldable pub dispersionOf : Input → Float
 unfolding scoreOf centersOf
-dispersionOf c xs starts picks = scoreOf (extentOf c) (centersOf c xs starts picks) (copiesIn starts)
+dispersionOf f = scoreOf (extentOf (f .cell)) (centersOf f) (copies (f .starts))
 
 -- ---- Dispersion: 1, 2, 3, 4, 15, 8
-unfoldable pub dispersionRefusal : Cell → List Float → List ℕ → List ℕ → ℕ
+unfoldable pub dispersionRefusal : Input → ℕ
 unfolding inputRefusals firstRefusal
-dispersionRefusal c xs starts picks = firstRefusal (inputRefusals c xs [] starts picks)
+dispersionRefusal f = firstRefusal (inputRefusals f)
 
 -- what Dispersion answers: the score, or the refusal's number
-unfoldable pub dispersionAnswer : Cell → List Float → List ℕ → List ℕ → Dispersed
+unfoldable pub dispersionAnswer : Input → Dispersed
 unfolding dispersionRefusal dispersionOf
-dispersionAnswer c xs starts picks =
-    let r = dispersionRefusal c xs starts picks in
-    unlessRefused r (Score (dispersionOf c xs starts picks)) (Refused r)
+dispersionAnswer f = let r = dispersionRefusal f in unlessRefused r (Score (dispersionOf f)) (Refused r)
 
 -- the number of each case of an answer, and its values: the score, none with a refusal
-abbrev pub dispersedNumber : Dispersed → ℕ
-dispersedNumber (Score s) = 0
-dispersedNumber (Refused n) = n
+abbrev pub dispersionNumber : Dispersed → ℕ
+dispersionNumber (Score s) = 0
+dispersionNumber (Refused n) = n
 
-abbrev pub dispersedValues : Dispersed → List Float
-dispersedValues (Score s) = s ∷ []
-dispersedValues (Refused n) = []
+abbrev pub dispersionValues : Dispersed → List Float
+dispersionValues (Score s) = s ∷ []
+dispersionValues (Refused n) = []

@@ -2,10 +2,14 @@
 // f32 arithmetic, each operation rounded once; squared distances are summed in f64.
 ghost use mathlib.Core.Path.{_≡_};
 ghost use mathlib.Core.Bool.{true};
+ghost use mathlib.Core.List.{[]};
 ghost use Prim.Native.Nat.{_+_, _-_, _*_, _<_, _≤_};
 ghost use lib.ListN.{length};
 ghost use lib.Ieee.{binary64, ofBits};
+ghost use Rattle.base.specs.Entry.{old};
+ghost use Rattle.base.specs.Limits.{maxCopies};
 ghost use Rattle.pick_lists.specs.Sound.{soundLists};
+ghost use Rattle.pick_lists.specs.Input.{given};
 ghost use Rattle.dispersion.specs.Dispersion.{clamped, expectedOf, rowSum, pairSum, observedOf, scoreOf, dispersionOf, dispersionAnswer};
 use cell::Cell;
 use cell::EPSILON;
@@ -40,7 +44,7 @@ fn expected(e: Vec3) -> f32
 // s and the squared distances of center i to the later ones.
 fn row_sum(e: Vec3, centers: &[f32], n: usize, i: usize, s: f64) -> f64
     requires { ⌜ (n * 3 ≤ length (now centers)) × (i < n) ⌝ }
-    ensures { λ r. ⌜ r ≡ rowSum e (now (centers .entry)) i (n - (i + 1)) (i + 1) s ⌝ }
+    ensures { λ r. ⌜ r ≡ rowSum e (old centers) i (n - (i + 1)) (i + 1) s ⌝ }
 {
     let a = cell::point(centers, i);
     let mut sum = s;
@@ -55,7 +59,7 @@ fn row_sum(e: Vec3, centers: &[f32], n: usize, i: usize, s: f64) -> f64
 // The squared distances of all pairs of the first n centers, in order.
 fn pair_sum(e: Vec3, centers: &[f32], n: usize) -> f64
     requires { ⌜ n * 3 ≤ length (now centers) ⌝ }
-    ensures { λ r. ⌜ r ≡ pairSum e (now (centers .entry)) n n 0 (ofBits binary64 0) ⌝ }
+    ensures { λ r. ⌜ r ≡ pairSum e (old centers) n n 0 (ofBits binary64 0) ⌝ }
 {
     let mut sum = 0.0;
     let mut i = 0;
@@ -68,17 +72,17 @@ fn pair_sum(e: Vec3, centers: &[f32], n: usize) -> f64
 
 // The root mean square distance of n centers, two or more.
 fn observed(e: Vec3, centers: &[f32], n: usize) -> f32
-    requires { ⌜ (n * 3 ≤ length (now centers)) × (2 ≤ n) × (n ≤ 4096) ⌝ }
-    ensures { λ r. ⌜ r ≡ observedOf e (now (centers .entry)) n ⌝ }
+    requires { ⌜ (n * 3 ≤ length (now centers)) × (2 ≤ n) × (n ≤ maxCopies) ⌝ }
+    ensures { λ r. ⌜ r ≡ observedOf e (old centers) n ⌝ }
 {
     let pairs = n * (n - 1) / 2;
     numbers::convert::narrow(roots::sqrt64(pair_sum(e, centers, n) / pairs as f64))
 }
 
 // The score of the first n centers.
-pub fn score(e: Vec3, centers: &[f32], n: usize) -> f32
-    requires { ⌜ (n * 3 ≤ length (now centers)) × (n ≤ 4096) ⌝ }
-    ensures { λ r. ⌜ r ≡ scoreOf e (now (centers .entry)) n ⌝ }
+fn score(e: Vec3, centers: &[f32], n: usize) -> f32
+    requires { ⌜ (n * 3 ≤ length (now centers)) × (n ≤ maxCopies) ⌝ }
+    ensures { λ r. ⌜ r ≡ scoreOf e (old centers) n ⌝ }
 {
     if n < 2 {
         return 1.0;
@@ -93,7 +97,7 @@ pub fn score(e: Vec3, centers: &[f32], n: usize) -> f32
 // The dispersion of sound pick lists: the core of Dispersion. The centers are kept in a local array of 12,288 floats.
 pub fn dispersion_of(cell: Cell, xs: &[f32], starts: &[u32], picks: &[u32]) -> f32
     requires { ⌜ soundLists (now xs) (now starts) (now picks) ≡ true ⌝ }
-    ensures { λ r. ⌜ r ≡ dispersionOf cell (now (xs .entry)) (now (starts .entry)) (now (picks .entry)) ⌝ }
+    ensures { λ r. ⌜ r ≡ dispersionOf (given cell (old xs) [] (old starts) (old picks)) ⌝ }
 {
     let mut centers = centers::center_room();
     centers::put_centers(cell, xs, starts, picks, &mut centers);
@@ -102,7 +106,7 @@ pub fn dispersion_of(cell: Cell, xs: &[f32], starts: &[u32], picks: &[u32]) -> f
 
 // Dispersion: 1, 2, 3, 4, 15, 8 in this order, or the score.
 pub fn dispersion(cell: Cell, solutes: &[f32], starts: &[u32], picks: &[u32]) -> Dispersed
-    ensures answer { λ r. ⌜ r ≡ dispersionAnswer cell (now (solutes .entry)) (now (starts .entry)) (now (picks .entry)) ⌝ }
+    ensures answer { λ r. ⌜ r ≡ dispersionAnswer (given cell (old solutes) [] (old starts) (old picks)) ⌝ }
 {
     let refusal = pick_lists::input_refusal(cell, solutes, &solutes[..0], starts, picks);
     if refusal != 0 {

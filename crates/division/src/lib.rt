@@ -5,6 +5,7 @@ use octants::arrange;
 ghost use mathlib.Core.Path.{_≡_};
 ghost use Prim.Native.Nat.{_≤_, _<_, _-_};
 ghost use lib.ListN.{length};
+ghost use Rattle.base.specs.Entry.{old};
 ghost use Rattle.octants.specs.Inner.{Sortable};
 ghost use Rattle.division.specs.Split.{maxDepth};
 ghost use Rattle.division.specs.Inner.{octantsOf, Divided};
@@ -15,7 +16,7 @@ pub const MAX_DEPTH: usize = 14;
 // How many octants a node has to visit: all 8 where it splits, else none.
 fn octants(depth: usize, order: &[u32], b: OctreeBounds) -> usize
     requires { ⌜ depth ≤ maxDepth ⌝ }
-    ensures is { λ r. ⌜ r ≡ octantsOf (maxDepth - depth) (now (order .entry)) b ⌝ }
+    ensures is { λ r. ⌜ r ≡ octantsOf (maxDepth - depth) (old order) b ⌝ }
     ensures small { λ r. ⌜ r ≤ 8 ⌝ }
     ensures deep { λ r. ⌜ (0 < r → depth < maxDepth) ⌝ }
 {
@@ -46,11 +47,11 @@ pub fn divide(
     requires { ⌜ depth ≤ maxDepth ⌝ }
     requires { ⌜ Sortable (now corder) (now ccounts) (length (now scratch)) (length (now codes)) ⌝ }
     requires { ⌜ Sortable (now worder) (now wcounts) (length (now scratch)) (length (now codes)) ⌝ }
-    ensures is { λ r. ⌜ r ≡ octantsOf (maxDepth - depth) (now (corder .entry)) b ⌝ }
+    ensures is { λ r. ⌜ r ≡ octantsOf (maxDepth - depth) (old corder) b ⌝ }
     ensures small { λ r. ⌜ r ≤ 8 ⌝ }
     ensures deep { λ r. ⌜ (0 < r → depth < maxDepth) ⌝ }
-    ensures centers { λ r. ⌜ Divided (now (centers .entry)) (b .center) r (now (corder .entry)) (now (corder .exit)) (now (ccounts .exit)) ⌝ }
-    ensures waters { λ r. ⌜ Divided (now (waters .entry)) (b .center) r (now (worder .entry)) (now (worder .exit)) (now (wcounts .exit)) ⌝ }
+    ensures centers { λ r. ⌜ Divided (old centers) (b .center) r (old corder) (now (corder .exit)) (now (ccounts .exit)) ⌝ }
+    ensures waters { λ r. ⌜ Divided (old waters) (b .center) r (old worder) (now (worder .exit)) (now (wcounts .exit)) ⌝ }
 {
     let left = octants(depth, corder, b);
     if left == 0 {

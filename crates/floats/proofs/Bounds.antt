@@ -29,7 +29,7 @@ within-more nan A B h w = w
 within-more (inf s) A B h w = w
 within-more (fin s m e) A B h w = le-trans w (mul-le-mul-right (down e) h)
 
-within-neg : (B : ℕ) (x : Float) → Within B x → Within B (neg x)
+pub within-neg : (B : ℕ) (x : Float) → Within B x → Within B (neg x)
 unfolding neg
 within-neg B nan h = h
 within-neg B (inf s) h = h

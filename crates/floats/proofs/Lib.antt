@@ -28,6 +28,8 @@ pub mod SameValue
 pub mod Signed
 -- |x| at most h by one test
 pub mod Magnitudes
+-- what the tests of order say of finite values, the larger and the smaller of two, whole numbers about 0 and 1, values off zero
+pub mod Order
 -- each operation is the exact result rounded
 pub mod Operations
 -- an exact result is not changed

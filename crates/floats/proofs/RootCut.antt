@@ -8,7 +8,8 @@ use lib.Dec.{lit≤}
 use lib.Pow.{pow-add, pow-pos, pow-mono}
 use lib.Count.{leadingZeros, leading-top}
 use lib.Ieee.{size}
-use Rattle.floats.specs.Root.{Rooted, wholeRoot, rootDrop, rootDigits}
+use Rattle.floats.specs.Inner.{Rooted}
+use Rattle.floats.specs.Root.{wholeRoot, rootDrop, rootDigits}
 use Rattle.floats.proofs.Powers.{pow-shift, pow-lt-back, size-is}
 use Rattle.floats.proofs.Squares.{sq-lt-back, four-is, wholeRoot-is}
 

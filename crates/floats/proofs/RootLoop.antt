@@ -10,7 +10,7 @@ use lib.Dec.{T, ltb, ltb→lt, nltb→le}
 use lib.Arith.{digits-div}
 use lib.Pow.{pow-pos, pow-mono}
 use lib.Bits.{bitAnd, and-mask}
-use Rattle.floats.specs.Root.{Rooted}
+use Rattle.floats.specs.Inner.{Rooted}
 use Rattle.floats.proofs.Squares.{sq-double, sq-odd, sq-suc}
 
 -- The digits of m taken so far, in base 4, are r * r + rem, and w holds the others

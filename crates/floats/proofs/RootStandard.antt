@@ -13,7 +13,7 @@ use lib.Ieee.{Float, nan, inf, fin, Format, low, up, down, lt, fits}
 use lib.Ieee.Fits.{down-pos}
 use lib.Ieee.Positive.{num, den, den-pos, positive, positive-finite}
 use Rattle.floats.specs.Root.{sqrtOf}
-use Rattle.floats.specs.Standard.{IsRoot, total}
+use Rattle.floats.specs.Standard.{IsRoot, crossSum}
 use Rattle.floats.proofs.Signs.{unsigned-finite, positive-unsigned, positive-sign}
 use Rattle.floats.proofs.Held.{on-grid}
 use Rattle.floats.proofs.SameValue.{same-value}
@@ -74,14 +74,14 @@ is-root f m e h p =
       above = λ z k u l.
           let w = on-grid f z k (unsigned-finite z u) in
           let Z = w .0 * 2 ^ w .1 in
-          to-above (suc m * up e) (down e) A U (total r z) (den r * den z) (Y + Z) (square f m e h)
+          to-above (suc m * up e) (down e) A U (crossSum r z) (den r * den z) (Y + Z) (square f m e h)
           (sum-is (num r) (den r) (num z) (den z) Y Z U (R .value) (w .3))
           (mul-pos (den-pos r) (den-pos z)) (down-pos e)
           (R .above (w .0) (w .1) (w .2) (cross-lt (num r) (den r) (num z) (den z) Y Z U (R .value) (w .3) (pow-pos (low f)) (lt→cross r z P u l)));
       below = λ z k u l.
           let w = on-grid f z k (unsigned-finite z u) in
           let Z = w .0 * 2 ^ w .1 in
-          to-below (suc m * up e) (down e) A U (total r z) (den r * den z) (Y + Z) (square f m e h)
+          to-below (suc m * up e) (down e) A U (crossSum r z) (den r * den z) (Y + Z) (square f m e h)
           (sum-is (num r) (den r) (num z) (den z) Y Z U (R .value) (w .3))
           (mul-pos (den-pos r) (den-pos z)) (down-pos e)
           (R .below (w .0) (w .1) (w .2) (cross-lt (num z) (den z) (num r) (den r) Z Y U (w .3) (R .value) (pow-pos (low f)) (lt→cross z r u P l)));
@@ -101,7 +101,7 @@ pub root-only : (f : Format) (x y z : Float) → IsRoot f x y → IsRoot f x z �
 root-only f x y z p q h =
     let a = p .above z (q .held) (positive-unsigned z (q .above-zero)) h in
     let b = q .below y (p .held) (positive-unsigned y (p .above-zero)) h in
-    let t : total z y ≡ total y z = add-comm (num z * den y) (num y * den z) in
+    let t : crossSum z y ≡ crossSum y z = add-comm (num z * den y) (num y * den z) in
     let d : den z * den y ≡ den y * den z = mul-comm (den z) (den y) in
     lt-irrefl (4 * num x * (den y * den z * (den y * den z)))
     (lt-of-lt-of-le a (le-of-lt (lt-of-le-of-lt (le-of-eq (sym (ap (λ (k : ℕ). k * k * den x) t)))

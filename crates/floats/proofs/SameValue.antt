@@ -3,11 +3,11 @@
 use mathlib.Core.Path.{_≡_, sym, ap, _∙_}
 use Prim.Native.Nat.{ℕ, _+_, _-_, _*_, _/_, _^_}
 use native.Mathlib.Nat.{mul-right-comm, eq-of-mul-eq-mul-right, mul-div-cancel}
-use mathlib.Core.Bool.{Bool, _||_, Bool·beq, cond}
+use mathlib.Core.Bool.{Bool, cond}
 use lib.IntN.{ℤ}
-use lib.Dec.{T, eqb, eqb→eq}
-use lib.Ieee.{Float, nan, inf, fin, Format, prec, low, hid, top, up, down, size, round, eq, fits, ofBits, toBits}
-use lib.Ieee.Fits.{down-pos, round-fits, and-l}
+use lib.Dec.{T}
+use lib.Ieee.{Float, nan, inf, fin, Format, prec, low, hid, top, up, down, size, round, fits, ofBits, toBits}
+use lib.Ieee.Fits.{down-pos, round-fits}
 use lib.Ieee.Bits.{ofBits-toBits}
 use lib.Ieee.Exact.{HasValue, round-exact}
 use lib.Ieee.Scale.{finite}
@@ -44,20 +44,6 @@ same-value f x y p q a b h k =
     mul-right-comm (num y) L (den x) ∙ ap (λ (n : ℕ). n * L) (sym k) ∙ mul-right-comm (num x) (den y) L ∙ ap (λ (n : ℕ). n * den y) (g .3)
     ∙ mul-right-comm G (den x) (den y) in
     same-units f x y G p q a b h (g .3) (eq-of-mul-eq-mul-right (den x) (den-pos x) (num y * L) (G * den y) moved)
-
--- values that compare equal and have one sign; without the sign, the two zeros would be an exception
-pub eq-same : (f : Format) (x y : Float) → T (fits f x) → T (fits f y) → T (eq x y) → sign x ≡ sign y → x ≡ y
-unfolding eq
-eq-same f nan y p q h k = absurd h
-eq-same f (inf s) nan p q h k = absurd h
-eq-same f (inf s) (inf t) p q h k = ap inf k
-eq-same f (inf s) (fin t n d) p q h k = absurd h
-eq-same f (fin s m e) nan p q h k = absurd h
-eq-same f (fin s m e) (inf t) p q h k = absurd h
-eq-same f (fin s m e) (fin t n d) p q h k =
-    let a = m * up e * down d in
-    let b = n * up d * down e in
-    same-value f (fin s m e) (fin t n d) p q tt tt k (eqb→eq a b (and-l (eqb a b) (Bool·beq s t || eqb a 0) h))
 
 -- ---- a value of the format is its own rounding
 own-value : (f : Format) (s : Bool) (m : ℕ) (e : ℤ) → T (fits f (fin s m e)) → HasValue (round f s (m * up e) (down e)) s (m * up e) (down e)

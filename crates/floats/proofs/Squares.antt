@@ -8,7 +8,8 @@ use lib.Dec.{T, leb, leb→le, nleb→lt}
 use lib.Pow.{pow-pos}
 use lib.Ieee.{size}
 use lib.Ieee.Digits.{size-lt}
-use Rattle.floats.specs.Root.{rootBy, Rooted, wholeRoot}
+use Rattle.floats.specs.Root.{rootBy, wholeRoot}
+use Rattle.floats.specs.Inner.{Rooted}
 
 -- ---- the square of a sum
 sq-add : (a b : ℕ) → (a + b) * (a + b) ≡ a * a + 2 * (a * b) + b * b

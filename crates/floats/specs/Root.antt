@@ -1,14 +1,10 @@
 -- Document 01, 'Numbers': the square root, correctly rounded. In units of the format's smallest value 2 ^ -low, the root of x is
 -- the plain root of a natural number, so the definition has no cases on the exponent.
 -- Definitions only. Assumes nothing.
-use Prim.Native.Nat.{ℕ, zero, suc, _+_, _-_, _*_, _/_, _^_, _≤_, _<_}
+use Prim.Native.Nat.{ℕ, zero, suc, _+_, _-_, _*_, _/_, _^_}
 use mathlib.Core.Bool.{true, false, cond}
 use lib.Dec.{leb}
 use lib.Ieee.{Float, nan, inf, fin, Format, prec, low, up, down, size, units}
-
--- r is the whole root of n
-abbrev pub Rooted : ℕ → ℕ → Type 0
-Rooted n r = (r * r ≤ n) × (n < suc r * suc r)
 
 -- The whole root of an n below 4 ^ d, a binary digit at a time: the largest r with r * r ≤ n.
 unfoldable pub rootBy : ℕ → ℕ → ℕ

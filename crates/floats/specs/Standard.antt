@@ -96,8 +96,8 @@ unsigned (fin true m e) = false
 unsigned (fin false m e) = true
 
 -- y + z is total y z / (den y * den z)
-abbrev pub total : Float → Float → ℕ
-total y z = num y * den z + num z * den y
+abbrev pub crossSum : Float → Float → ℕ
+crossSum y z = num y * den z + num z * den y
 
 -- squareRoot, of a finite x above zero: the value of the format nearest to the exact root of x. The root is nearer to y than to a z above y
 -- exactly where it is below their mean, which is 4 * x < (y + z) ^ 2; and for a z below y, where (y + z) ^ 2 < 4 * x.
@@ -106,8 +106,8 @@ pub record IsRoot (f : Format) (x y : Float) : Type 0 where
   pub domain : T (positive x)
   pub held : T (fits f y)
   pub above-zero : T (positive y)
-  pub above : (z : Float) → T (fits f z) → T (unsigned z) → T (lt y z) → 4 * num x * (den y * den z * (den y * den z)) < total y z * total y z * den x
-  pub below : (z : Float) → T (fits f z) → T (unsigned z) → T (lt z y) → total y z * total y z * den x < 4 * num x * (den y * den z * (den y * den z))
+  pub above : (z : Float) → T (fits f z) → T (unsigned z) → T (lt y z) → 4 * num x * (den y * den z * (den y * den z)) < crossSum y z * crossSum y z * den x
+  pub below : (z : Float) → T (fits f z) → T (unsigned z) → T (lt z y) → crossSum y z * crossSum y z * den x < 4 * num x * (den y * den z * (den y * den z))
 
 -- ---- special values
 -- of floor, round and conversion: a NaN gives NaN, and an infinity stays

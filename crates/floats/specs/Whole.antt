@@ -2,9 +2,9 @@
 -- A value is `fin s m e`: m * 2 ^ e, negative where s is true; 2 ^ e is the fraction `up e` / `down e`.
 -- Definitions only. Assumes nothing.
 use Prim.Native.Nat.{ℕ, suc, _+_, _*_, _/_, _%_}
-use mathlib.Core.Bool.{Bool, true, false, cond, _&&_}
+use mathlib.Core.Bool.{true, false, cond}
 use lib.Dec.{eqb}
-use lib.Ieee.{Float, nan, inf, fin, Format, binary32, up, down, round, lt, ofBits}
+use lib.Ieee.{Float, nan, inf, fin, Format, up, down, round}
 
 -- a / c, for a c above 0, to a whole number: up, and to the nearest with a half going up
 abbrev pub ceiling : ℕ → ℕ → ℕ
@@ -27,7 +27,3 @@ unfolding round
 roundOf f nan = nan
 roundOf f (inf s) = inf s
 roundOf f (fin s m e) = round f s (halfUp (m * up e) (down e)) 1
-
--- x is above -1.5 and below 1.5: it rounds to -1, 0 or 1
-unfoldable pub nearZero : Float → Bool
-nearZero x = lt x (ofBits binary32 0x3fc0_0000) && lt (ofBits binary32 0xbfc0_0000) x

@@ -3,7 +3,7 @@ use mathlib.Core.Path.{_≡_}
 use mathlib.Core.List.{List}
 use Prim.Native.Nat.{ℕ}
 use lib.ListN.{length, take}
-use Rattle.cell.specs.Tables.{over}
+use Rattle.base.specs.Tables.{over}
 use Rattle.block_text.specs.Printed.{printed}
 
 -- the buffer's first n bytes are the input s, or of a longer one as many as the buffer has

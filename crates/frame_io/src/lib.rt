@@ -2,6 +2,7 @@
 // listing. No contract can say which bytes are read or written; `put_input` promises the text of whatever input was read.
 ghost use Prim.Native.Nat.{_≤_, _<_};
 ghost use lib.ListN.{length};
+ghost use Rattle.base.specs.Entry.{old};
 ghost use Rattle.block.specs.Block.{maxBlock};
 ghost use Rattle.io.specs.Counts.{Counts};
 ghost use Rattle.frame_io.specs.Input.{WholeText, TextLength};
@@ -18,7 +19,7 @@ const INPUT_ROOM: usize = MAX_BLOCK + 1;
 fn put_input(input: &[u8], n: usize, out: &mut [u8; TEXT_ROOM]) -> usize
     requires { ⌜ (maxBlock < length (now input)) × (n ≤ length (now input)) ⌝ }
     ensures room { λ r. ⌜ Counts r (now (out .exit)) ⌝ }
-    ensures text { λ r. ⌜ WholeText (now (input .entry)) n (now (out .entry)) r (now (out .exit)) ⌝ }
+    ensures text { λ r. ⌜ WholeText (old input) n (old out) r (now (out .exit)) ⌝ }
 {
     block_text::put_text(&input[..n], out)
 }

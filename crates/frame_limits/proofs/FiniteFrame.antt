@@ -18,10 +18,10 @@ use Rattle.floats.proofs.Bounds.{Within}
 use Rattle.floats.proofs.Tests.{holds, both}
 use Rattle.cell.specs.declared.Cell.{Cell}
 use Rattle.cell.specs.Cell.{epsilon, validAxis, extentOf, valid, wrap, minImage, minus, distance2, pointAt, finitePoint}
-use Rattle.frame_limits.specs.Limits.{maxBound, maxCoordinate, over, anyOver, boundOver, frameRefusals}
-use Rattle.cell.specs.Refusals.{firstRefusal}
+use Rattle.frame_limits.specs.Limits.{maxBound, maxCoordinate, exceeds, anyOver, boundOver, frameRefusals}
+use Rattle.base.specs.Refusals.{firstRefusal}
 use Rattle.cell.proofs.Finite.{sub-pow, Above, Side, Sides, Around, around-finite, wrap-around, image-around, minus-around, distance-finite}
-use Rattle.cell.proofs.FirstRefusal.{neither}
+use Rattle.base.proofs.Tests.{neither}
 use Rattle.frame_limits.proofs.FrameRefusals.{frame-none}
 
 -- ---- one number
@@ -29,8 +29,8 @@ at-most : (a b c : ℕ) → ltb (1 * b * c) (a * 1) ≡ false → a ≤ b * c
 at-most a b c h = subst (λ (n : ℕ). a ≤ n * c) (one-mul b) (subst (λ (n : ℕ). n ≤ 1 * b * c) (mul-one a) (ltb-false (1 * b * c) (a * 1) h))
 
 -- what is finite and not over 2 ^ k in magnitude
-under : (k : ℕ) (x : Float) → T (finite x) → over (fin false 1 (pos k)) x ≡ false → Within (2 ^ k) x
-unfolding over lt neg
+under : (k : ℕ) (x : Float) → T (finite x) → exceeds (fin false 1 (pos k)) x ≡ false → Within (2 ^ k) x
+unfolding exceeds lt neg
 under k nan h o = absurd h
 under k (inf s) h o = absurd h
 under k (fin false m e) h o = at-most (m * up e) (2 ^ k) (down e) (neither (ltb (1 * 2 ^ k * down e) (m * up e * 1)) false o .0)
@@ -61,11 +61,11 @@ above (fin false n d) h l = turned (down d) (n * up d) (ltb-true (1 * down d) (n
     turned a b p = omega arith
 
 -- ---- the numbers of a list, one at a time
-not-over : (limit : Float) (xs : List Float) → anyOver limit xs ≡ false → (i : ℕ) → over limit (getD xs i nan) ≡ false
-unfolding anyOver over
+not-over : (limit : Float) (xs : List Float) → anyOver limit xs ≡ false → (i : ℕ) → exceeds limit (getD xs i nan) ≡ false
+unfolding anyOver exceeds
 not-over limit [] o i = refl
-not-over limit (x ∷ xs) o zero = neither (over limit x) (anyOver limit xs) o .0
-not-over limit (x ∷ xs) o (suc i) = not-over limit xs (neither (over limit x) (anyOver limit xs) o .1) i
+not-over limit (x ∷ xs) o zero = neither (exceeds limit x) (anyOver limit xs) o .0
+not-over limit (x ∷ xs) o (suc i) = not-over limit xs (neither (exceeds limit x) (anyOver limit xs) o .1) i
 
 -- ---- the cell
 -- every bound is 2 ^ 16 at most in magnitude, and every side above 2 ^ -23 and 2 ^ 17 at most
@@ -80,7 +80,7 @@ record LimitedAxis (low high : Float) : Type 0 where
   high-within : Within (2 ^ 16) high
   side : Side (sub binary32 high low)
 
-limited-axis : (low high : Float) → over maxBound low ≡ false → over maxBound high ≡ false → validAxis (sub binary32 high low) ≡ true → LimitedAxis low high
+limited-axis : (low high : Float) → exceeds maxBound low ≡ false → exceeds maxBound high ≡ false → validAxis (sub binary32 high low) ≡ true → LimitedAxis low high
 unfolding validAxis ofBits
 limited-axis low high ol oh v =
     let e = sub binary32 high low in

@@ -11,9 +11,10 @@ use native.Mathlib.Omega.{arith}
 use borrow.Author.Tests.{ne-eqb}
 use Rattle.cell.specs.declared.Cell.{Cell}
 use Rattle.cell.specs.Cell.{valid}
-use Rattle.cell.specs.Refusals.{firstRefusal}
+use Rattle.base.specs.Refusals.{firstRefusal}
 use Rattle.frame_limits.specs.Limits.{lengths, counts, bounds, coordinates, validity, limitRefusals, frameRefusals, ragged, long, longIndices, boundOver, anyOver, maxCoordinate}
-use Rattle.cell.proofs.FirstRefusal.{numbered, first-none, first-append, neither}
+use Rattle.base.proofs.FirstRefusal.{numbered, first-none, first-append}
+use Rattle.base.proofs.Tests.{neither}
 
 pub limit-numbered : (c : Cell) (solutes waters : List Float) (indices : List ℕ) → numbered (limitRefusals c solutes waters indices) ≡ true
 unfolding numbered limitRefusals lengths counts bounds coordinates

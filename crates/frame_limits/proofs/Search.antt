@@ -9,8 +9,8 @@ use lib.ListN.{length, getD, drop, drop-of-length-le}
 use lib.Seq.{drop-cons}
 use lib.Ieee.{Float, nan}
 use lib.Ieee.Scale.{finite}
-use Rattle.frame_limits.specs.Limits.{beyond, over, any, anyOver}
-use Rattle.cell.proofs.FirstRefusal.{neither}
+use Rattle.frame_limits.specs.Limits.{beyond, exceeds, any, anyOver}
+use Rattle.base.proofs.Tests.{neither}
 
 module _ (test : Float → Bool) (xs : List Float) where
   -- the next number goes to what was found before it
@@ -22,7 +22,7 @@ module _ (test : Float → Bool) (xs : List Float) where
 
 -- where none is beyond the limit, none is over it
 pub within-limit : (limit : Float) (xs : List Float) → any (beyond limit) xs ≡ false → anyOver limit xs ≡ false
-unfolding anyOver over
+unfolding anyOver exceeds
 within-limit limit [] e = refl
 within-limit limit (x ∷ xs) e =
     let n = neither (beyond limit x) (any (beyond limit) xs) e in

@@ -7,22 +7,10 @@ use lib.Dec.{ltb, eqb}
 use lib.ListN.{length}
 use lib.Ieee.{Float, binary32, lt, neg, ofBits}
 use lib.Ieee.Scale.{finite}
+use Rattle.base.specs.Limits.{maxAtoms, maxIndices}
 use Rattle.cell.specs.declared.Cell.{Cell}
 use Rattle.cell.specs.Cell.{valid}
-use Rattle.cell.specs.Refusals.{Refusal, refuse}
-
--- solute atoms, and waters
-abbrev pub maxAtoms : ℕ
-maxAtoms = 65536
-
-abbrev pub maxIndices : ℕ
-maxIndices = 256
-
-abbrev pub maxCopies : ℕ
-maxCopies = 4096
-
-abbrev pub maxPicks : ℕ
-maxPicks = 65536
+use Rattle.base.specs.Refusals.{Refusal, refuse}
 
 -- 65,536 and 1,048,576, in magnitude
 abbrev pub maxBound : Float
@@ -36,8 +24,8 @@ abbrev pub beyond : Float → Float → Bool
 beyond limit x = lt limit x || lt x (neg limit)
 
 -- x is finite and over a limit in magnitude
-unfoldable pub over : Float → Float → Bool
-over limit x = finite x && beyond limit x
+unfoldable pub exceeds : Float → Float → Bool
+exceeds limit x = finite x && beyond limit x
 
 -- one of the numbers passes the test
 abbrev pub any : (Float → Bool) → List Float → Bool
@@ -46,8 +34,8 @@ any test (x ∷ xs) = test x || any test xs
 
 -- one of the numbers is over the limit
 unfoldable pub anyOver : Float → List Float → Bool
-unfolding over
-anyOver limit = any (over limit)
+unfolding exceeds
+anyOver limit = any (exceeds limit)
 
 -- a length that is no multiple of three
 unfoldable pub ragged : List Float → Bool

@@ -8,8 +8,8 @@ use lib.ListN.{length}
 use lib.Ieee.{Float}
 use Rattle.cell.specs.declared.Cell.{Cell}
 use Rattle.cell.specs.Cell.{valid}
-use Rattle.cell.specs.Refusals.{Refusal, refuse}
-use Rattle.frame_limits.specs.Limits.{maxCopies, maxPicks}
+use Rattle.base.specs.Refusals.{Refusal, refuse}
+use Rattle.base.specs.Limits.{maxCopies, maxPicks}
 use Rattle.cluster_table.specs.Table.{words}
 
 -- the cell is not valid, a coordinate list is empty, no copy is kept or no water is finite

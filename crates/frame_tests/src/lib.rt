@@ -1,15 +1,17 @@
 // What the whole frame tests, after 1, 2, 3 and 4, before it writes anything (document 01, 'Whole frame'): blank, then 5, 6 and 7. The order of all
 // its refusals is crate `mixing`'s.
 ghost use mathlib.Core.Path.{_≡_};
-ghost use Rattle.cell.specs.Refusals.{firstRefusal};
+ghost use Rattle.base.specs.Entry.{old};
+ghost use Rattle.base.specs.Refusals.{firstRefusal};
 ghost use Rattle.frame_tests.specs.Tests.{isBlank, sizeRefusals};
+use base::MAX_COPIES;
+use base::MAX_PICKS;
 use cell::Cell;
-use frame_limits::MAX_COPIES;
-use frame_limits::MAX_PICKS;
+use cluster_table::HEADER;
 
 // Whether a frame with so many kept copies and finite waters is blank.
 pub fn is_blank(cell: Cell, solutes: &[f32], waters: &[f32], copies: usize, finite: usize) -> bool
-    ensures { λ r. ⌜ r ≡ isBlank cell (now (solutes .entry)) (now (waters .entry)) copies finite ⌝ }
+    ensures { λ r. ⌜ r ≡ isBlank cell (old solutes) (old waters) copies finite ⌝ }
 {
     !cell::is_valid(cell)
         | ((solutes.len() == 0) | ((waters.len() == 0) | ((copies == 0) | (finite == 0))))
@@ -35,7 +37,7 @@ pub fn size_refusal(
         return 6;
     }
     if ((starts < copies + 1) | (picks < picked))
-        | ((clusters < 2 + 3 * copies) | ((center_order < copies) | (water_order < finite)))
+        | ((clusters < HEADER + 3 * copies) | ((center_order < copies) | (water_order < finite)))
     {
         return 7;
     }

@@ -3,27 +3,30 @@
 use mathlib.Core.Path.{_≡_}
 use mathlib.Core.Bool.{false}
 use mathlib.Core.List.{List}
-use Prim.Native.Nat.{ℕ, _*_}
+use Prim.Native.Nat.{ℕ, _*_, _+_}
 use lib.ListN.{length, replicate}
-use lib.Ieee.{Float, binary32, ofBits}
+use lib.Ieee.{Float}
 use borrow.Author.Tests.{le-ltb}
+use Rattle.base.specs.Limits.{maxCopies}
+use Rattle.floats.specs.Constants.{zero32}
+use Rattle.cluster_table.specs.Table.{words}
 use Rattle.listing.specs.Listing.{leavesMissing}
 use Rattle.mixing.specs.declared.FrameAnswer.{FrameAnswer}
 use Rattle.mixing.specs.declared.FrameAnswer.the-variants.{Mixed}
-use Rattle.mixing.specs.Frame.{Frame, Tables, lent, frameAnswer, tablesAfter}
+use Rattle.mixing.specs.Frame.{Frame, FrameTables, frameTables, frameAnswer, frameAfter}
 use Rattle.mixing.proofs.Answered.{listed-leaves}
 use Rattle.frame_text.specs.Texts.{programTables, answerText, frameText}
 
 -- tables that are zeros are those that the program lends
 pub lent-zeros : {starts picks clusters center-order water-order records : List ℕ} {boxes : List Float} {leaves : List ℕ}
-    → starts ≡ replicate 4097 0 → picks ≡ replicate 16384 0 → clusters ≡ replicate 12290 0 → center-order ≡ replicate 4096 0 → water-order ≡ replicate 4996 0
-    → records ≡ replicate 16384 0 → boxes ≡ replicate 12288 (ofBits binary32 0) → leaves ≡ replicate 16384 0
-    → lent starts picks clusters center-order water-order records boxes leaves ≡ programTables
+    → starts ≡ replicate (maxCopies + 1) 0 → picks ≡ replicate 16384 0 → clusters ≡ replicate (words maxCopies) 0 → center-order ≡ replicate maxCopies 0 → water-order ≡ replicate 4996 0
+    → records ≡ replicate 16384 0 → boxes ≡ replicate 12288 zero32 → leaves ≡ replicate 16384 0
+    → frameTables starts picks clusters center-order water-order records boxes leaves ≡ programTables
 unfolding programTables
 lent-zeros s p k c w r b l = rw (s, p, k, c, w, r, b, l)
 
-module _ (f : Frame) (t : Tables) where
-  pub answer-text : (r : FrameAnswer) (leaves : List ℕ) → r ≡ frameAnswer f t → leaves ≡ tablesAfter f t .leaves → answerText r leaves ≡ frameText f t
+module _ (f : Frame) (t : FrameTables) where
+  pub answer-text : (r : FrameAnswer) (leaves : List ℕ) → r ≡ frameAnswer f t → leaves ≡ frameAfter f t .leaves → answerText r leaves ≡ frameText f t
   unfolding frameText
   answer-text r leaves e h = rw (e, h)
 

@@ -2,20 +2,26 @@
 // sizes, and its answer listed. Beside what the whole frame keeps on its stack there are these tables, about 350,000 bytes.
 ghost use mathlib.Core.Path.{_≡_};
 ghost use mathlib.Core.Bool.{false};
+ghost use Prim.Native.Nat.{_+_};
 ghost use lib.ListN.{replicate};
-ghost use lib.Ieee.{binary32, ofBits};
+ghost use Rattle.base.specs.Entry.{old};
+ghost use Rattle.base.specs.Limits.{maxCopies};
+ghost use Rattle.floats.specs.Constants.{zero32};
+ghost use Rattle.cluster_table.specs.Table.{words};
 ghost use Rattle.listing.specs.Listing.{textAnswer, textAfter};
-ghost use Rattle.mixing.specs.Frame.{given};
+ghost use Rattle.mixing.specs.Frame.{frameOf};
 ghost use Rattle.frame_text.specs.Texts.{programTables, frameText};
+use base::MAX_COPIES;
 use cell::Cell;
+use cluster_table::HEADER;
 use listing::Listed;
 use mixing::FrameAnswer;
 
 // Long local arrays (docs/DECISIONS.md, 'The gate').
-fn start_room() -> [u32; 4097]
-    ensures { λ r. ⌜ r ≡ replicate 4097 0 ⌝ }
+fn start_room() -> [u32; MAX_COPIES + 1]
+    ensures { λ r. ⌜ r ≡ replicate (maxCopies + 1) 0 ⌝ }
 {
-    [0u32; 4097]
+    [0u32; MAX_COPIES + 1]
 }
 
 // The picks, or 2,048 records.
@@ -25,16 +31,16 @@ fn word_room() -> [u32; 16384]
     [0u32; 16384]
 }
 
-fn cluster_room() -> [u32; 12290]
-    ensures { λ r. ⌜ r ≡ replicate 12290 0 ⌝ }
+fn cluster_room() -> [u32; HEADER + 3 * MAX_COPIES]
+    ensures { λ r. ⌜ r ≡ replicate (words maxCopies) 0 ⌝ }
 {
-    [0u32; 12290]
+    [0u32; HEADER + 3 * MAX_COPIES]
 }
 
-fn center_room() -> [u32; 4096]
-    ensures { λ r. ⌜ r ≡ replicate 4096 0 ⌝ }
+fn center_room() -> [u32; MAX_COPIES]
+    ensures { λ r. ⌜ r ≡ replicate maxCopies 0 ⌝ }
 {
-    [0u32; 4096]
+    [0u32; MAX_COPIES]
 }
 
 fn water_room() -> [u32; 4996]
@@ -44,7 +50,7 @@ fn water_room() -> [u32; 4996]
 }
 
 fn box_room() -> [f32; 12288]
-    ensures { λ r. ⌜ r ≡ replicate 12288 (ofBits binary32 0) ⌝ }
+    ensures { λ r. ⌜ r ≡ replicate 12288 zero32 ⌝ }
 {
     [0f32; 12288]
 }
@@ -58,8 +64,8 @@ pub fn put_frame(
     waters: &[f32],
     out: &mut [u8],
 ) -> Listed
-    ensures answer { λ r. ⌜ r ≡ textAnswer false (frameText (given cell (now (solutes .entry)) per (now (indices .entry)) (now (waters .entry))) programTables) (now (out .entry)) ⌝ }
-    ensures after { λ r. ⌜ now (out .exit) ≡ textAfter false (frameText (given cell (now (solutes .entry)) per (now (indices .entry)) (now (waters .entry))) programTables) (now (out .entry)) ⌝ }
+    ensures answer { λ r. ⌜ r ≡ textAnswer false (frameText (frameOf cell (old solutes) per (old indices) (old waters)) programTables) (old out) ⌝ }
+    ensures after { λ r. ⌜ now (out .exit) ≡ textAfter false (frameText (frameOf cell (old solutes) per (old indices) (old waters)) programTables) (old out) ⌝ }
 {
     let mut starts = start_room();
     let mut picks = word_room();

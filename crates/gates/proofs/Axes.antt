@@ -18,11 +18,11 @@ use Rattle.cell.specs.declared.Cell.{Cell}
 use Rattle.cell.specs.declared.Vec3.{Vec3}
 use Rattle.cell.specs.Cell.{imageAxis, validAxis, valid, extentOf, pointAt, finitePoint}
 use Rattle.frame_limits.specs.Limits.{boundOver, anyOver, maxCoordinate, frameRefusals}
-use Rattle.cell.specs.Refusals.{firstRefusal}
+use Rattle.base.specs.Refusals.{firstRefusal}
 use Rattle.cell.proofs.Finite.{Above, Side, Around, image-axis-within}
 use Rattle.frame_limits.proofs.FrameRefusals.{frame-none}
 use Rattle.frame_limits.proofs.FiniteFrame.{limited-cell, atom-around}
-use Rattle.gates.specs.Gates.{turnsOf, tested}
+use Rattle.gates.specs.Inner.{turnsOf, tested}
 
 -- ---- one axis
 -- its extent is above 2 ^ -23 and 2 ^ 17 at most, with no minus sign

@@ -1,6 +1,4 @@
 -- The laws that the proofs of this crate and of the layers above it cite.
--- the order of finite floats: what its tests say, the larger and the smaller of two, whole numbers, values off zero
-pub mod Order
 -- an axis of a tested cell: its extent, turns and images are finite, and images keep the order where turns do
 pub mod Axes
 -- the gate theorem: what passes the tests at its ends rejects all that lies between them

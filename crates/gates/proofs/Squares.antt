@@ -15,8 +15,8 @@ use Rattle.cell.specs.declared.Vec3.{Vec3}
 use Rattle.cell.specs.Cell.{squared}
 use Rattle.cell.proofs.Finite.{Around, squared-within}
 use Rattle.touch.specs.Touch.{cutoff2}
-use Rattle.gates.specs.Gates.{zero}
-use Rattle.gates.proofs.Order.{plus-of, minus-of}
+use Rattle.floats.specs.Constants.{zero32}
+use Rattle.floats.proofs.Order.{plus-of, minus-of}
 
 abbrev sq : Float → Float
 sq x = mul binary32 x x
@@ -35,11 +35,11 @@ sq-finite x w = within-finite (2 ^ 48) (sq x) (sq-within x w)
 over : (a x : Float) → T (finite a) → T (finite x) → T (lt cutoff2 a) → T (le a x) → T (le x cutoff2) → ⊥
 over a x p q h k l = lt-not-le a cutoff2 p cutoff-finite h (le-trans-finite a x cutoff2 p q cutoff-finite k l)
 
-pub right-of : (a x : Float) → Within (2 ^ 24) a → Within (2 ^ 24) x → T (lt zero a) → T (lt cutoff2 (sq a)) → T (le a x) → T (le (sq x) cutoff2) → ⊥
+pub right-of : (a x : Float) → Within (2 ^ 24) a → Within (2 ^ 24) x → T (lt zero32 a) → T (lt cutoff2 (sq a)) → T (le a x) → T (le (sq x) cutoff2) → ⊥
 right-of a x wa wx p s h =
     over (sq a) (sq x) (sq-finite a wa) (sq-finite x wx) s (square-right binary32 a x (plus-of a (within-finite (2 ^ 24) a wa) p) (within-finite (2 ^ 24) x wx) h)
 
-pub left-of : (b x : Float) → Within (2 ^ 24) b → Within (2 ^ 24) x → T (lt b zero) → T (lt cutoff2 (sq b)) → T (le x b) → T (le (sq x) cutoff2) → ⊥
+pub left-of : (b x : Float) → Within (2 ^ 24) b → Within (2 ^ 24) x → T (lt b zero32) → T (lt cutoff2 (sq b)) → T (le x b) → T (le (sq x) cutoff2) → ⊥
 left-of b x wb wx p s h =
     over (sq b) (sq x) (sq-finite b wb) (sq-finite x wx) s (square-left binary32 b x (minus-of b (within-finite (2 ^ 24) b wb) p) (within-finite (2 ^ 24) x wx) h)
 

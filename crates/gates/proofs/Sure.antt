@@ -4,20 +4,21 @@
 use mathlib.Core.Path.{_≡_, refl}
 use mathlib.Core.Logic.{_⊎_, inl, inr}
 use mathlib.Core.Bool.{Bool, true, false, _&&_, cond}
-use Prim.Native.Nat.{ℕ, _^_, _≤_}
+use Prim.Native.Nat.{_^_, _≤_}
 use lib.Dec.{T, lit≤}
-use lib.Ieee.{Float, nan, inf, fin, binary32, ofBits, round, neg, sub, mul, div, lt, le}
+use lib.Ieee.{Float, binary32, ofBits, round, neg, sub, mul, div, lt, le}
 use lib.Ieee.Scale.{finite}
 use Rattle.floats.proofs.Tests.{holds, both}
-use Rattle.floats.proofs.Bounds.{Within, exact-pow, sub-within, within-more}
+use Rattle.floats.proofs.Bounds.{Within, exact-pow, within-neg, sub-within, within-more}
 use Rattle.floats.proofs.Quotients.{within-finite}
 use Rattle.floats.proofs.Signs.{neg-finite}
 use Rattle.floats.proofs.Signed.{le-trans-finite}
 use Rattle.cell.specs.Cell.{imageAxis}
 use Rattle.touch.specs.Touch.{cutoff2}
 use Rattle.gates.specs.declared.Gate.{Gate}
-use Rattle.gates.specs.Gates.{zero, one, start, turnsOf, clearRight, clearLeft, holdsAt, gateOf}
-use Rattle.gates.proofs.Order.{whole-up, whole-down}
+use Rattle.floats.specs.Constants.{zero32, one32}
+use Rattle.gates.specs.Inner.{gateStart, turnsOf, clearRight, clearLeft, holdsAt, gateOf}
+use Rattle.floats.proofs.Order.{whole-up, whole-down}
 use Rattle.gates.proofs.Axes.{Axis, quotient-finite, turns-finite, image-within, image-order}
 use Rattle.gates.proofs.Squares.{right-of, left-of}
 
@@ -33,8 +34,8 @@ between least most l m e d fl fm E wl wm w h split hl hm =
     let a = both (le least (turnsOf l e)) (le (turnsOf m e) most && (clearRight l e && clearLeft m e)) h in
     let b = both (le (turnsOf m e) most) (clearRight l e && clearLeft m e) (a .1) in
     let c = both (clearRight l e) (clearLeft m e) (b .1) in
-    let right = both (lt zero (imageAxis l e)) (lt cutoff2 (mul binary32 (imageAxis l e) (imageAxis l e))) (c .0) in
-    let left = both (lt (imageAxis m e) zero) (lt cutoff2 (mul binary32 (imageAxis m e) (imageAxis m e))) (c .1) in
+    let right = both (lt zero32 (imageAxis l e)) (lt cutoff2 (mul binary32 (imageAxis l e) (imageAxis l e))) (c .0) in
+    let left = both (lt (imageAxis m e) zero32) (lt cutoff2 (mul binary32 (imageAxis m e) (imageAxis m e))) (c .1) in
     elim split [
       | inl few ↦
           right-of (imageAxis l e) (imageAxis d e) (image-within l e E wl) (image-within d e E w) (holds (right .0)) (holds (right .1))
@@ -45,11 +46,11 @@ between least most l m e d fl fm E wl wm w h split hl hm =
     ]
 
 -- turns are whole: at most 0 or at least 1, and at most -1 or at least 0
-turns-up : (d e : Float) → Axis e → Within (2 ^ 21) d → T (le (turnsOf d e) zero) ⊎ T (le one (turnsOf d e))
+turns-up : (d e : Float) → Axis e → Within (2 ^ 21) d → T (le (turnsOf d e) zero32) ⊎ T (le one32 (turnsOf d e))
 unfolding turnsOf ofBits round
 turns-up d e E w = whole-up binary32 (div binary32 d e) (quotient-finite d e E w)
 
-turns-down : (d e : Float) → Axis e → Within (2 ^ 21) d → T (le (turnsOf d e) (neg one)) ⊎ T (le zero (turnsOf d e))
+turns-down : (d e : Float) → Axis e → Within (2 ^ 21) d → T (le (turnsOf d e) (neg one32)) ⊎ T (le zero32 (turnsOf d e))
 unfolding turnsOf ofBits round neg
 turns-down d e E w = whole-down binary32 (div binary32 d e) (quotient-finite d e E w)
 
@@ -60,54 +61,48 @@ pub record Sure (g : Gate) (e : Float) : Type 0 where
   pub up : (d : Float) → Within (2 ^ 21) d → T (le (g .r) d) → T (le d (g .u)) → Apart d e
   pub down : (d : Float) → Within (2 ^ 21) d → T (le (neg (g .u)) d) → T (le d (neg (g .r))) → Apart d e
 
-neg-within : (B : ℕ) (x : Float) → Within B x → Within B (neg x)
-unfolding neg
-neg-within B nan w = w
-neg-within B (inf s) w = w
-neg-within B (fin s m e) w = w
-
-zero-finite : T (finite zero)
+zero-finite : T (finite zero32)
 unfolding ofBits
 zero-finite = tt
 
-one-finite : T (finite one)
+one-finite : T (finite one32)
 unfolding ofBits
 one-finite = tt
 
-start-within : Within (2 ^ 20) start
+start-within : Within (2 ^ 20) gateStart
 unfolding ofBits
 start-within = lit≤ tt
 
 -- both tests passed
-tried : (e : Float) → Axis e → holdsAt zero one start (sub binary32 e start) e ≡ true → holdsAt (neg one) zero (neg (sub binary32 e start)) (neg start) e ≡ true
-    → Sure (record { r = start; u = sub binary32 e start }) e
+tried : (e : Float) → Axis e → holdsAt zero32 one32 gateStart (sub binary32 e gateStart) e ≡ true → holdsAt (neg one32) zero32 (neg (sub binary32 e gateStart)) (neg gateStart) e ≡ true
+    → Sure (record { r = gateStart; u = sub binary32 e gateStart }) e
 tried e E p q =
-    let u = sub binary32 e start in
-    let wr : Within (2 ^ 21) start = within-more start (2 ^ 20) (2 ^ 21) (lit≤ tt) start-within in
-    let wu : Within (2 ^ 21) u = sub-within binary32 e start (2 ^ 20) (2 ^ 20) (exact-pow binary32 21 (lit≤ tt)) (within-more e (2 ^ 17) (2 ^ 20) (lit≤ tt) (E .side .within)) start-within in
+    let u = sub binary32 e gateStart in
+    let wr : Within (2 ^ 21) gateStart = within-more gateStart (2 ^ 20) (2 ^ 21) (lit≤ tt) start-within in
+    let wu : Within (2 ^ 21) u = sub-within binary32 e gateStart (2 ^ 20) (2 ^ 20) (exact-pow binary32 21 (lit≤ tt)) (within-more e (2 ^ 17) (2 ^ 20) (lit≤ tt) (E .side .within)) start-within in
     record {
-      r-finite = within-finite (2 ^ 20) start start-within;
+      r-finite = within-finite (2 ^ 20) gateStart start-within;
       u-finite = within-finite (2 ^ 21) u wu;
-      up = λ d w. between zero one start u e d zero-finite one-finite E wr wu w p (turns-up d e E w);
-      down = λ d w. between (neg one) zero (neg u) (neg start) e d (neg-finite one one-finite) zero-finite E (neg-within (2 ^ 21) u wu) (neg-within (2 ^ 21) start wr) w q (turns-down d e E w);
+      up = λ d w. between zero32 one32 gateStart u e d zero-finite one-finite E wr wu w p (turns-up d e E w);
+      down = λ d w. between (neg one32) zero32 (neg u) (neg gateStart) e d (neg-finite one32 one-finite) zero-finite E (within-neg (2 ^ 21) u wu) (within-neg (2 ^ 21) gateStart wr) w q (turns-down d e E w);
     }
 
 -- nothing passes
-one-zero : T (le one zero) → ⊥
+one-zero : T (le one32 zero32) → ⊥
 unfolding le ofBits
 one-zero h = h
 
-minus-zero : T (le (neg zero) (neg one)) → ⊥
+minus-zero : T (le (neg zero32) (neg one32)) → ⊥
 unfolding le ofBits neg
 minus-zero h = h
 
-never : (e : Float) → Sure (record { r = one; u = zero }) e
+never : (e : Float) → Sure (record { r = one32; u = zero32 }) e
 never e =
     record {
       r-finite = one-finite;
       u-finite = zero-finite;
-      up = λ d w a b. absurd (one-zero (le-trans-finite one d zero one-finite (within-finite (2 ^ 21) d w) zero-finite a b));
-      down = λ d w a b. absurd (minus-zero (le-trans-finite (neg zero) d (neg one) (neg-finite zero zero-finite) (within-finite (2 ^ 21) d w) (neg-finite one one-finite) a b));
+      up = λ d w a b. absurd (one-zero (le-trans-finite one32 d zero32 one-finite (within-finite (2 ^ 21) d w) zero-finite a b));
+      down = λ d w a b. absurd (minus-zero (le-trans-finite (neg zero32) d (neg one32) (neg-finite zero32 zero-finite) (within-finite (2 ^ 21) d w) (neg-finite one32 one-finite) a b));
     }
 
 -- THE THEOREM: the gate of an axis keeps its promise, whatever its extent
@@ -116,11 +111,11 @@ unfolding gateOf
 gate-sure e E = go (up && down) refl
   where
     up : Bool
-    up = holdsAt zero one start (sub binary32 e start) e
+    up = holdsAt zero32 one32 gateStart (sub binary32 e gateStart) e
 
     down : Bool
-    down = holdsAt (neg one) zero (neg (sub binary32 e start)) (neg start) e
+    down = holdsAt (neg one32) zero32 (neg (sub binary32 e gateStart)) (neg gateStart) e
 
-    go : (t : Bool) → up && down ≡ t → Sure (cond t (record { r = start; u = sub binary32 e start }) (record { r = one; u = zero })) e
+    go : (t : Bool) → up && down ≡ t → Sure (cond t (record { r = gateStart; u = sub binary32 e gateStart }) (record { r = one32; u = zero32 })) e
     go true h = let p = both up down h in tried e E (p .0) (p .1)
     go false h = never e

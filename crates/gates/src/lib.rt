@@ -5,10 +5,12 @@ ghost use mathlib.Core.Path.{_≡_};
 ghost use mathlib.Core.Bool.{true};
 ghost use Prim.Native.Nat.{_+_, _*_, _<_};
 ghost use lib.ListN.{length};
+ghost use Rattle.base.specs.Entry.{old};
 ghost use Rattle.cell.specs.Cell.{extentOf, pointAt, finitePoint};
 ghost use Rattle.touch.specs.Touch.{near as nearOf};
-ghost use Rattle.gates.specs.Gates.{turnsOf, clearRight, clearLeft, holdsAt, gateOf, gatesOf, larger as largerOf, smaller as smallerOf, farOf, tested};
+ghost use Rattle.gates.specs.Inner.{turnsOf, clearRight, clearLeft, holdsAt, gateOf, gatesOf, farOf, tested};
 use cell::Cell;
+use numbers::order::larger;
 use touch::CUTOFF;
 
 // The separations that one axis rejects: from r to u, and from -u to -r; none where u is below r.
@@ -56,11 +58,14 @@ fn holds(least: f32, most: f32, l: f32, m: f32, e: f32) -> bool
     (least <= turns(l, e)) & ((turns(m, e) <= most) & (clear_right(l, e) & clear_left(m, e)))
 }
 
-// The gate from 4.25 to e - 4.25 where its tests hold, and one that nothing passes where they do not: cells below about 8.5.
-pub fn gate_of(e: f32) -> Gate
+// Where a gate starts: a little above the cutoff.
+const GATE_START: f32 = 4.25;
+
+// The gate from there to e less it where its tests hold, and one that nothing passes where they do not: cells below about 8.5.
+fn gate_of(e: f32) -> Gate
     ensures { λ g. ⌜ g ≡ gateOf e ⌝ }
 {
-    let r = 4.25;
+    let r = GATE_START;
     let u = e - r;
     if holds(0.0, 1.0, r, u, e) & holds(-1.0, 0.0, -u, -r, e) {
         return Gate { r: r, u: u };
@@ -81,24 +86,6 @@ pub fn gates_of(cell: Cell) -> Gates
 
 // ---- the test
 
-pub fn larger(a: f32, b: f32) -> f32
-    ensures { λ r. ⌜ r ≡ largerOf a b ⌝ }
-{
-    if b < a {
-        return a;
-    }
-    b
-}
-
-pub fn smaller(a: f32, b: f32) -> f32
-    ensures { λ r. ⌜ r ≡ smallerOf a b ⌝ }
-{
-    if a < b {
-        return a;
-    }
-    b
-}
-
 // Whether the gate rejects every separation from lo to hi. No branch turns on a sign.
 pub fn far(g: Gate, lo: f32, hi: f32) -> bool
     ensures { λ r. ⌜ r ≡ farOf g lo hi ⌝ }
@@ -111,7 +98,7 @@ pub fn near(cell: Cell, g: Gates, xs: &[f32], p: usize, q: usize) -> bool
     requires { ⌜ (g ≡ gatesOf (extentOf cell)) × (tested cell (now xs) ≡ true) ⌝ }
     requires { ⌜ (p * 3 + 2 < length (now xs)) × (finitePoint (pointAt (now xs) p) ≡ true) ⌝ }
     requires { ⌜ (q * 3 + 2 < length (now xs)) × (finitePoint (pointAt (now xs) q) ≡ true) ⌝ }
-    ensures { λ r. ⌜ r ≡ nearOf (extentOf cell) (now (xs .entry)) p q ⌝ }
+    ensures { λ r. ⌜ r ≡ nearOf (extentOf cell) (old xs) p q ⌝ }
 {
     let d = cell::separation(cell::point(xs, p), cell::point(xs, q));
     if far(g.x, d.x, d.x) {

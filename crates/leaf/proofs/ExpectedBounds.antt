@@ -8,6 +8,7 @@ use borrow.Author.Tests.{ltb-false}
 use lib.Dec.{lit<, lit≤}
 use lib.Ieee.{Float, nan, inf, fin, binary32, up, down, add, mul, lt, ofInt, ofBits, ofFields, round, size, span, climb, units, odd}
 use lib.Ieee.Fits.{down-pos}
+use Rattle.base.specs.Limits.{maxAtoms}
 use Rattle.floats.proofs.Bounds.{Within, exact-pow, round-within}
 use Rattle.floats.proofs.Quotients.{AtLeast, div-within}
 use Rattle.cell.specs.declared.Vec3.{Vec3}
@@ -16,7 +17,8 @@ use Rattle.cell.specs.Cell.{epsilon, extentOf, volumeOf}
 use Rattle.cell.proofs.Finite.{Around, Sides, pow-more, add-pow, mul-pow, volume-within}
 use Rattle.frame_limits.proofs.FiniteFrame.{Limited}
 use Rattle.bounds.specs.declared.OctreeBounds.{OctreeBounds}
-use Rattle.leaf.specs.Leaf.{smaller, larger, twiceShell, expanded, roomVolume, densityOf}
+use Rattle.floats.specs.Order.{smaller, larger}
+use Rattle.leaf.specs.Leaf.{twiceShell, expanded, roomVolume, densityOf}
 
 -- ---- volumes
 volume-pow : (k : ℕ) (e : Vec3) → k + k + k ≤ 127 → Around k e → Within (2 ^ (k + k + k)) (volumeOf e)
@@ -77,7 +79,7 @@ room-at-least c l = by-test (lt (volumeOf (extentOf c)) epsilon) refl
     by-test true h = epsilon-at-least
     by-test false h = volume-at-least (2 ^ 51) (volumeOf (extentOf c)) volume h
 
-density-within : (c : Cell) (m : ℕ) → Limited c → m ≤ 65536 → Within (2 ^ 39) (densityOf c m)
+density-within : (c : Cell) (m : ℕ) → Limited c → m ≤ maxAtoms → Within (2 ^ 39) (densityOf c m)
 unfolding densityOf ofInt
 density-within c m l h =
     div-within binary32 (round binary32 false m 1) (roomVolume c) (2 ^ 16) 23 (exact-pow binary32 39 (lit≤ tt))
@@ -85,7 +87,7 @@ density-within c m l h =
 
 -- ---- what is expected in a box, and in the box with its shell
 pub expected-within :
-    (c : Cell) (b : OctreeBounds) (m : ℕ) → Limited c → Around 17 (b .extent) → m ≤ 65536 →
+    (c : Cell) (b : OctreeBounds) (m : ℕ) → Limited c → Around 17 (b .extent) → m ≤ maxAtoms →
     Within (2 ^ 100) (mul binary32 (densityOf c m) (volumeOf (b .extent))) × Within (2 ^ 100) (mul binary32 (densityOf c m) (volumeOf (expanded c b)))
 expected-within c b m l a few =
     let density = densityOf c m in

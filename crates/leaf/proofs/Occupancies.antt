@@ -4,7 +4,8 @@ use Prim.Native.Nat.{ℕ, zero, suc}
 use lib.IntN.{pos}
 use lib.Ieee.{Float, binary32, div, ofInt, ofBits}
 use Rattle.leaf.specs.declared.Occupancy.the-variants.{Ratio}
-use Rattle.leaf.specs.Leaf.{larger, occupancyOf}
+use Rattle.floats.specs.Order.{larger}
+use Rattle.leaf.specs.Leaf.{occupancyOf}
 
 pub some-seen : (n : ℕ) (expected : Float) → (n ≡ 0 → ⊥) → Ratio (div binary32 (ofInt binary32 (pos n)) (larger (ofBits binary32 0x3f40_0000) expected)) ≡ occupancyOf n expected
 unfolding occupancyOf

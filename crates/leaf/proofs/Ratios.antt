@@ -13,6 +13,7 @@ use lib.Ieee.Fits.{div-fits, up-pos}
 use lib.Ieee.Bits.{ofBits-toBits}
 use lib.Ieee.Order.{round-mono}
 use lib.Ieee.Positive.{num, den, den-pos, positive, above, above-of-le, between, le→cross}
+use Rattle.base.specs.Limits.{maxAtoms}
 use Rattle.floats.proofs.Bounds.{Within}
 use Rattle.floats.proofs.Operations.{div-is}
 use Rattle.cell.specs.declared.Cell.{Cell}
@@ -20,7 +21,8 @@ use Rattle.cell.specs.Cell.{volumeOf}
 use Rattle.cell.proofs.Finite.{Around}
 use Rattle.frame_limits.proofs.FiniteFrame.{Limited}
 use Rattle.bounds.specs.declared.OctreeBounds.{OctreeBounds}
-use Rattle.leaf.specs.Leaf.{larger, densityOf, expanded, occupancyOf, occupancyWord}
+use Rattle.floats.specs.Order.{larger}
+use Rattle.leaf.specs.Leaf.{densityOf, expanded, occupancyOf, occupancyWord}
 use Rattle.leaf.proofs.ExpectedBounds.{expected-within}
 
 -- ---- a quotient of what is 1 at least by what is 2 ^ 100 at most is above zero
@@ -66,7 +68,7 @@ crossed : (d m : ℕ) → num (round binary32 false 1 1) * d ≤ m * den (round 
 unfolding round size span climb units odd
 crossed d m h = omega arith
 
-seen-big : (n : ℕ) → n < 65536 → T (positive (ofInt binary32 (pos (suc n)))) × (den (ofInt binary32 (pos (suc n))) ≤ num (ofInt binary32 (pos (suc n))))
+seen-big : (n : ℕ) → n < maxAtoms → T (positive (ofInt binary32 (pos (suc n)))) × (den (ofInt binary32 (pos (suc n))) ≤ num (ofInt binary32 (pos (suc n))))
 unfolding ofInt
 seen-big n h =
     let x = round binary32 false (suc n) 1 in
@@ -106,7 +108,7 @@ above-word : (r : Float) → T (fits binary32 r) → T (above r) → toBits bina
 unfolding ofBits ofFields
 above-word r f a h = subst (λ (z : Float). T (above z)) (sym (ofBits-toBits binary32 r f) ∙ ap (ofBits binary32) h) a
 
-word-not-zero : (n : ℕ) (expected : Float) → n < 65536 → Within (2 ^ 100) expected → occupancyWord (occupancyOf (suc n) expected) ≡ 0 → ⊥
+word-not-zero : (n : ℕ) (expected : Float) → n < maxAtoms → Within (2 ^ 100) expected → occupancyWord (occupancyOf (suc n) expected) ≡ 0 → ⊥
 unfolding occupancyOf
 word-not-zero n expected h w =
     let x = ofInt binary32 (pos (suc n)) in
@@ -117,7 +119,7 @@ word-not-zero n expected h w =
 
 -- a box with sides 2 ^ 17 at most, in a cell within the limits, with m waters in it: neither occupancy with some water seen has the word 0
 pub ratios-not-zero :
-    (c : Cell) (b : OctreeBounds) (m n : ℕ) → Limited c → Around 17 (b .extent) → m ≤ 65536 → n < 65536 →
+    (c : Cell) (b : OctreeBounds) (m n : ℕ) → Limited c → Around 17 (b .extent) → m ≤ maxAtoms → n < maxAtoms →
     (occupancyWord (occupancyOf (suc n) (mul binary32 (densityOf c m) (volumeOf (b .extent)))) ≡ 0 → ⊥)
     × (occupancyWord (occupancyOf (suc n) (mul binary32 (densityOf c m) (volumeOf (expanded c b)))) ≡ 0 → ⊥)
 ratios-not-zero c b m n l a few seen =

@@ -5,8 +5,10 @@ use mathlib.Core.List.{List}
 use Prim.Native.Nat.{ℕ, zero, suc, _+_}
 use lib.Dec.{leb}
 use lib.IntN.{pos}
-use lib.Ieee.{Float, binary32, add, mul, div, neg, lt, le, ofInt, ofBits, toBits}
+use lib.Ieee.{Float, binary32, add, mul, div, neg, le, ofInt, ofBits, toBits}
 use Rattle.floats.specs.Root.{sqrtOf}
+use Rattle.floats.specs.Order.{larger, smaller}
+use Rattle.floats.specs.Constants.{zero32, one32}
 use Rattle.cell.specs.declared.Vec3.{Vec3}
 use Rattle.cell.specs.declared.Cell.{Cell}
 use Rattle.cell.specs.Cell.{epsilon, extentOf, minImage, minus, volumeOf, pointAt}
@@ -14,13 +16,6 @@ use Rattle.dispersion.specs.Dispersion.{clamped}
 use Rattle.bounds.specs.declared.OctreeBounds.{OctreeBounds}
 use Rattle.leaf.specs.declared.Occupancy.{Occupancy}
 use Rattle.leaf.specs.declared.Occupancy.the-variants.{Dry, Ratio}
-
--- the smaller and the larger of two floats
-unfoldable pub smaller : Float → Float → Float
-smaller a b = cond (lt b a) b a
-
-unfoldable pub larger : Float → Float → Float
-larger a b = cond (lt a b) b a
 
 -- the shell's width, 4.2, and twice it
 abbrev pub shellWidth : Float
@@ -100,5 +95,5 @@ referenceVolume c copies = div binary32 (roomVolume c) (ofInt binary32 (pos (ref
 -- 0 with a reference at or below EPSILON, otherwise clamped sqrt(leaf volume / reference) x sqrt(1 / centers)
 unfoldable pub partitionScore : Float → Float → ℕ → Float
 partitionScore leafVolume reference centers =
-    cond (le reference epsilon) (ofBits binary32 0)
-    (mul binary32 (clamped (sqrtOf binary32 (div binary32 leafVolume reference))) (sqrtOf binary32 (div binary32 (ofBits binary32 0x3f80_0000) (ofInt binary32 (pos centers)))))
+    cond (le reference epsilon) zero32
+    (mul binary32 (clamped (sqrtOf binary32 (div binary32 leafVolume reference))) (sqrtOf binary32 (div binary32 one32 (ofInt binary32 (pos centers)))))

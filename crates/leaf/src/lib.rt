@@ -5,12 +5,16 @@ ghost use mathlib.Core.Path.{_≡_};
 ghost use Prim.Native.Nat.{_*_, _≤_};
 ghost use lib.ListN.{length};
 ghost use lib.Ieee.{binary32, sub};
+ghost use Rattle.base.specs.Entry.{old};
+ghost use Rattle.base.specs.Limits.{maxAtoms};
 ghost use Rattle.cell.specs.Cell.{imageAxis};
-ghost use Rattle.leaf.specs.Leaf.{smaller as smallerOf, larger as largerOf, halfSide, withinHalf, inShell, shellFrom, expanded as expandedOf, roomVolume, densityOf, occupancyOf, occupancyWord, referenceLeaves, referenceVolume, partitionScore};
+ghost use Rattle.leaf.specs.Leaf.{halfSide, withinHalf, inShell, shellFrom, expanded as expandedOf, roomVolume, densityOf, occupancyOf, occupancyWord, referenceLeaves, referenceVolume, partitionScore};
 use bounds::OctreeBounds;
 use cell::Cell;
 use cell::EPSILON;
 use cell::Vec3;
+use numbers::order::larger;
+use numbers::order::smaller;
 
 // How wet a box is: dry (no water seen), or observed waters over expected ones.
 pub enum Occupancy {
@@ -23,18 +27,6 @@ const SHELL: f32 = 4.2;
 
 // Fewer waters than this are never expected.
 const EXPECTED_FLOOR: f32 = 0.75;
-
-fn smaller(a: f32, b: f32) -> f32
-    ensures { λ r. ⌜ r ≡ smallerOf a b ⌝ }
-{
-    if b < a { b } else { a }
-}
-
-fn larger(a: f32, b: f32) -> f32
-    ensures { λ r. ⌜ r ≡ largerOf a b ⌝ }
-{
-    if a < b { b } else { a }
-}
 
 // ---- the shell
 
@@ -77,7 +69,7 @@ fn in_shell(cell: Cell, b: OctreeBounds, w: Vec3) -> bool
 // How many of the first m waters are in the shell of a box.
 pub fn shell_waters(cell: Cell, b: OctreeBounds, waters: &[f32], m: usize) -> usize
     requires { ⌜ m * 3 ≤ length (now waters) ⌝ }
-    ensures is { λ r. ⌜ r ≡ shellFrom cell b (now (waters .entry)) m 0 ⌝ }
+    ensures is { λ r. ⌜ r ≡ shellFrom cell b (old waters) m 0 ⌝ }
     ensures small { λ r. ⌜ r ≤ m ⌝ }
 {
     let mut n = 0;
@@ -114,7 +106,7 @@ fn room_volume(cell: Cell) -> f32
 
 // Waters in a cubic angstrom of the cell.
 pub fn density(cell: Cell, waters: usize) -> f32
-    requires { ⌜ waters ≤ 65536 ⌝ }
+    requires { ⌜ waters ≤ maxAtoms ⌝ }
     ensures { λ r. ⌜ r ≡ densityOf cell waters ⌝ }
 {
     waters as f32 / room_volume(cell)
@@ -122,7 +114,7 @@ pub fn density(cell: Cell, waters: usize) -> f32
 
 // Dry, or observed over expected.
 pub fn occupancy_of(observed: usize, expected: f32) -> Occupancy
-    requires { ⌜ observed ≤ 65536 ⌝ }
+    requires { ⌜ observed ≤ maxAtoms ⌝ }
     ensures { λ r. ⌜ r ≡ occupancyOf observed expected ⌝ }
 {
     if observed == 0 {
@@ -172,7 +164,7 @@ pub fn reference_volume(cell: Cell, copies: usize) -> f32
 
 // How large a leaf is against the reference, and how crowded. Only the first root is clamped.
 pub fn partition_score(leaf_volume: f32, reference: f32, centers: usize) -> f32
-    requires { ⌜ centers ≤ 65536 ⌝ }
+    requires { ⌜ centers ≤ maxAtoms ⌝ }
     ensures { λ r. ⌜ r ≡ partitionScore «leaf_volume» reference centers ⌝ }
 {
     if reference <= EPSILON {

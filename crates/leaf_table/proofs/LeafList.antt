@@ -9,21 +9,19 @@ use lib.Dec.{eqb}
 use lib.ListN.{length, length-append}
 use lib.Ieee.{Float}
 use Rattle.cell.specs.declared.Cell.{Cell}
-use Rattle.cell.specs.Tables.{placed, over}
-use Rattle.cell.proofs.Tables.{Filling, filling-first, filling-append, filling-last, placed-zero}
+use Rattle.base.specs.Tables.{placed, over}
+use Rattle.base.proofs.Tests.{bit-le}
+use Rattle.base.proofs.Filling.{Filling, filling-first, filling-append, filling-last}
+use Rattle.base.proofs.Placing.{placed-zero}
 use Rattle.nodes.specs.Nodes.{Node}
 use Rattle.leaf_table.specs.LeafTable.{isReported, leafWords, nodeWords, leavesFrom, reportedLeaves, dryLeaves}
 use Rattle.leaf_table.specs.Inner.{nodeAt, nodesFrom}
 
 -- ---- how many
-one-at-most : (b : Bool) → cond b 1 0 ≤ 1
-one-at-most true = omega arith
-one-at-most false = omega arith
-
 pub reported-few : (vs : List Node) → reportedLeaves vs ≤ length vs
 unfolding reportedLeaves
 reported-few [] = omega arith
-reported-few (v ∷ vs) = omega (arith, reported-few vs, one-at-most (isReported v))
+reported-few (v ∷ vs) = omega (arith, reported-few vs, bit-le (isReported v))
 
 pub nodes-length : (R : List ℕ) (X : List Float) (n i : ℕ) → length (nodesFrom R X n i) ≡ n
 unfolding nodesFrom
@@ -94,7 +92,7 @@ module _ {c : Cell} {density reference : Float} {ws : List Float} {m : ℕ} {R :
       let rest = nodesFrom R X (n - (i + 1)) (i + 1) in
       let leaves : reported + (1 + reportedLeaves rest) ≡ reportedLeaves (nodesFrom R X n 0) = rw (next R X n i h, t) at (z .leaves) in
       let dries : dry + (cond (eqb (v .waters) 0) 1 0 + dryLeaves rest) ≡ dryLeaves (nodesFrom R X n 0) = rw (next R X n i h, t) at (z .dries) in
-      let one = one-at-most (eqb (v .waters) 0) in
+      let one = bit-le (eqb (v .waters) 0) in
       let row = nodeWords c density reference ws m i v in
       let filling : Filling 0 (leavesFrom c density reference ws m 0 (nodesFrom R X n 0)) L₀ (reported * 8) (row ++ later c density reference ws m R X n (i + 1)) L =
       rw (next R X n i h, t) at (z .filling) in

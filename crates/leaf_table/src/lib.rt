@@ -4,8 +4,10 @@ ghost use mathlib.Core.Bool.{_&&_, cond};
 ghost use Prim.Native.Nat.{ℕ, _+_, _*_, _^_, _≤_, _<_};
 ghost use lib.Dec.{eqb, ltb};
 ghost use lib.ListN.{length, getD};
+ghost use Rattle.base.specs.Entry.{old};
+ghost use Rattle.base.specs.Limits.{maxAtoms};
 ghost use Rattle.cell.specs.Cell.{pointAt};
-ghost use Rattle.cell.specs.Tables.{placed, over};
+ghost use Rattle.base.specs.Tables.{placed, over};
 ghost use Rattle.bounds.specs.Bounds.{boxBetween};
 ghost use Rattle.leaf_table.specs.LeafTable.{leafWords, nodeWords, leavesFrom, reportedLeaves, dryLeaves};
 ghost use Rattle.leaf_table.specs.Inner.{nodeAt, nodesFrom};
@@ -21,7 +23,7 @@ pub struct Counts {
 // The box of node i.
 fn read_box(boxes: &[f32], i: usize) -> OctreeBounds
     requires { ⌜ i * 6 + 6 ≤ length (now boxes) ⌝ }
-    ensures { λ r. ⌜ r ≡ boxBetween (pointAt (now (boxes .entry)) (i * 2)) (pointAt (now (boxes .entry)) (i * 2 + 1)) ⌝ }
+    ensures { λ r. ⌜ r ≡ boxBetween (pointAt (old boxes) (i * 2)) (pointAt (old boxes) (i * 2 + 1)) ⌝ }
 {
     OctreeBounds::from_cell(Cell {
         low: cell::point(boxes, i * 2),
@@ -32,7 +34,7 @@ fn read_box(boxes: &[f32], i: usize) -> OctreeBounds
 // Whether node i is a leaf with centers.
 fn is_reported(records: &[u32], i: usize) -> bool
     requires { ⌜ i * 8 + 8 ≤ length (now records) ⌝ }
-    ensures { λ r. ⌜ r ≡ (eqb (getD (now (records .entry)) (i * 8 + 5) 0) 0 && ltb 0 (getD (now (records .entry)) (i * 8 + 2) 0)) ⌝ }
+    ensures { λ r. ⌜ r ≡ (eqb (getD (old records) (i * 8 + 5) 0) 0 && ltb 0 (getD (old records) (i * 8 + 2) 0)) ⌝ }
 {
     (records[i * 8 + 5] == 0) & (records[i * 8 + 2] > 0)
 }
@@ -40,7 +42,7 @@ fn is_reported(records: &[u32], i: usize) -> bool
 // 1 where node i has no water in its box.
 fn dry_bit(records: &[u32], i: usize) -> usize
     requires { ⌜ i * 8 + 8 ≤ length (now records) ⌝ }
-    ensures is { λ r. ⌜ r ≡ cond (eqb (getD (now (records .entry)) (i * 8 + 4) 0) 0) 1 0 ⌝ }
+    ensures is { λ r. ⌜ r ≡ cond (eqb (getD (old records) (i * 8 + 4) 0) 0) 1 0 ⌝ }
     ensures small { λ r. ⌜ r ≤ 1 ⌝ }
 {
     if records[i * 8 + 4] == 0 { 1 } else { 0 }
@@ -59,9 +61,10 @@ fn put_row(
     b: OctreeBounds,
     dst: &mut [u32],
 )
-    requires { ⌜ (m * 3 ≤ length (now waters)) × (m ≤ 65536) × (centers ≤ 65536) × (wet ≤ 65536) × (length (now dst) ≡ 8) ⌝ }
-    ensures { λ _. ⌜ now (dst .exit) ≡ leafWords cell density reference (now (waters .entry)) m i centers wet b ⌝ }
+    requires { ⌜ (m * 3 ≤ length (now waters)) × (m ≤ maxAtoms) × (centers ≤ maxAtoms) × (wet ≤ maxAtoms) × (length (now dst) ≡ 8) ⌝ }
+    ensures { λ _. ⌜ now (dst .exit) ≡ leafWords cell density reference (old waters) m i centers wet b ⌝ }
 {
+    // Box and shell are held against the same density.
     let volume = cell::volume(b.extent);
     let shell = leaf::shell_waters(cell, b, waters, m);
     let own = leaf::occupancy_of(wet as usize, density * volume);
@@ -73,7 +76,7 @@ fn put_row(
         centers,
         wet,
         leaf::occupancy_word(own),
-        nodes::word(shell),
+        base::word(shell),
         leaf::occupancy_word(around),
         numbers::class::to_bits32(score),
     );
@@ -92,10 +95,10 @@ fn put_leaf(
     leaves: &mut [u32],
     k: usize,
 )
-    requires { ⌜ (m * 3 ≤ length (now waters)) × (m ≤ 65536) ⌝ }
+    requires { ⌜ (m * 3 ≤ length (now waters)) × (m ≤ maxAtoms) ⌝ }
     requires { ⌜ (i * 8 + 8 ≤ length (now records)) × (i * 6 + 6 ≤ length (now boxes)) × (i < 2 ^ 32) × (k * 8 + 8 ≤ length (now leaves)) ⌝ }
-    requires { ⌜ (getD (now records) (i * 8 + 2) 0 ≤ 65536) × (getD (now records) (i * 8 + 4) 0 ≤ 65536) ⌝ }
-    ensures { λ _. ⌜ now (leaves .exit) ≡ placed (k * 8) (nodeWords cell density reference (now (waters .entry)) m i (nodeAt (now (records .entry)) (now (boxes .entry)) i)) (now (leaves .entry)) ⌝ }
+    requires { ⌜ (getD (now records) (i * 8 + 2) 0 ≤ maxAtoms) × (getD (now records) (i * 8 + 4) 0 ≤ maxAtoms) ⌝ }
+    ensures { λ _. ⌜ now (leaves .exit) ≡ placed (k * 8) (nodeWords cell density reference (old waters) m i (nodeAt (old records) (old boxes) i)) (old leaves) ⌝ }
 {
     put_row(
         cell,
@@ -103,7 +106,7 @@ fn put_leaf(
         m,
         density,
         reference,
-        nodes::word(i),
+        base::word(i),
         records[i * 8 + 2],
         records[i * 8 + 4],
         read_box(boxes, i),
@@ -123,17 +126,18 @@ pub fn put_leaves(
     n: usize,
     leaves: &mut [u32],
 ) -> Counts
-    requires { ⌜ (m * 3 ≤ length (now waters)) × (m ≤ 65536) ⌝ }
+    requires { ⌜ (m * 3 ≤ length (now waters)) × (m ≤ maxAtoms) ⌝ }
     requires { ⌜ (n * 8 ≤ length (now records)) × (n * 6 ≤ length (now boxes)) × (n * 8 ≤ length (now leaves)) × (n < 2 ^ 32) ⌝ }
-    requires { ⌜ ((k : ℕ) → k < n → (getD (now records) (k * 8 + 2) 0 ≤ 65536) × (getD (now records) (k * 8 + 4) 0 ≤ 65536)) ⌝ }
-    ensures reported { λ r. ⌜ r .reported ≡ reportedLeaves (nodesFrom (now (records .entry)) (now (boxes .entry)) n 0) ⌝ }
-    ensures dry { λ r. ⌜ r .dry ≡ dryLeaves (nodesFrom (now (records .entry)) (now (boxes .entry)) n 0) ⌝ }
-    ensures table { λ r. ⌜ now (leaves .exit) ≡ over (leavesFrom cell density reference (now (waters .entry)) m 0 (nodesFrom (now (records .entry)) (now (boxes .entry)) n 0)) (now (leaves .entry)) ⌝ }
+    requires { ⌜ ((k : ℕ) → k < n → (getD (now records) (k * 8 + 2) 0 ≤ maxAtoms) × (getD (now records) (k * 8 + 4) 0 ≤ maxAtoms)) ⌝ }
+    ensures reported { λ r. ⌜ r .reported ≡ reportedLeaves (nodesFrom (old records) (old boxes) n 0) ⌝ }
+    ensures dry { λ r. ⌜ r .dry ≡ dryLeaves (nodesFrom (old records) (old boxes) n 0) ⌝ }
+    ensures table { λ r. ⌜ now (leaves .exit) ≡ over (leavesFrom cell density reference (old waters) m 0 (nodesFrom (old records) (old boxes) n 0)) (old leaves) ⌝ }
 {
     let mut reported = 0;
     let mut dry = 0;
     let mut i = 0;
     while i < n {
+        // Leaves without centers are passed over, so the table has no more rows than nodes.
         if is_reported(records, i) {
             put_leaf(
                 cell,

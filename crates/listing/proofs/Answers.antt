@@ -8,12 +8,12 @@ use native.Mathlib.Nat.{zero-add}
 use lib.Dec.{ltb}
 use lib.ListN.{length}
 use borrow.Author.Tests.{le-ltb}
-use Rattle.cell.specs.Refusals.{firstRefusal}
-use Rattle.cell.specs.Tables.{over}
+use Rattle.base.specs.Refusals.{firstRefusal}
+use Rattle.base.specs.Tables.{over}
 use Rattle.listing.specs.declared.Listed.{Listed}
 use Rattle.listing.specs.declared.Listed.the-variants.{Written, Refused}
 use Rattle.listing.specs.Listing.{textRefusal, textAnswer, textAfter}
-use Rattle.cell.proofs.Tables.{placed-zero}
+use Rattle.base.proofs.Placing.{placed-zero}
 use Rattle.listing.proofs.Pieces.{Put}
 
 module _ (missing : Bool) (text out : List ℕ) where

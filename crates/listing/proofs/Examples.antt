@@ -5,8 +5,8 @@ use mathlib.Core.List.{List, [], _∷_}
 use Prim.Native.Nat.{ℕ}
 use lib.ListN.{replicate}
 use lib.Ieee.{Float, binary32, ofBits, toBits}
-use Rattle.cell.specs.Refusals.{firstRefusal}
-use Rattle.cell.specs.Tables.{over}
+use Rattle.base.specs.Refusals.{firstRefusal}
+use Rattle.base.specs.Tables.{over}
 use Rattle.text.specs.Text.{ascii, glyph, digits, placesIn, places, decimal, hex, hexBits, occupancy}
 use Rattle.listing.specs.declared.Listed.the-variants.{Written, Refused}
 use Rattle.listing.specs.Listing.{

@@ -5,8 +5,8 @@ use mathlib.Core.List.{List, _++_}
 use Prim.Native.Nat.{ℕ, _+_, _≤_}
 use native.Mathlib.Omega.{arith}
 use lib.ListN.{length, length-append}
-use Rattle.cell.specs.Tables.{placed}
-use Rattle.cell.proofs.Tables.{Filling, filling-append}
+use Rattle.base.specs.Tables.{placed}
+use Rattle.base.proofs.Filling.{Filling, filling-append}
 
 -- the piece ys is written into the table t at entry `at`: the table is then t₁, and the piece ends before entry r
 abbrev pub Put : ℕ → List ℕ → List ℕ → ℕ → List ℕ → Type 0

@@ -6,7 +6,7 @@ use Prim.Native.Nat.{ℕ, zero, suc, _+_, _≤_, _<_}
 use native.Mathlib.Omega.{arith}
 use lib.ListN.{length, getD, drop}
 use Rattle.text.specs.Text.{followed, line}
-use Rattle.cell.proofs.Tables.{Filling, filling-first}
+use Rattle.base.proofs.Filling.{Filling, filling-first}
 use Rattle.listing.proofs.Pieces.{Put, piece-fits, piece, last-piece}
 
 -- the words from the k-th on begin with it

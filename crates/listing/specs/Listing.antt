@@ -6,8 +6,8 @@ use mathlib.Core.List.{List, [], _∷_, _++_}
 use lib.Dec.{ltb}
 use lib.ListN.{length, getD}
 use lib.Ieee.{Float}
-use Rattle.cell.specs.Refusals.{refuse, firstRefusal}
-use Rattle.cell.specs.Tables.{over, unlessRefused}
+use Rattle.base.specs.Refusals.{refuse, firstRefusal}
+use Rattle.base.specs.Tables.{over, unlessRefused}
 use Rattle.text.specs.Text.{ascii, decimal, hex, hexBits, occupancy, line}
 use Rattle.listing.specs.declared.Listed.{Listed}
 use Rattle.listing.specs.declared.Listed.the-variants.{Written, Refused}
@@ -34,8 +34,8 @@ unfoldable pub nodesLine : ℕ → ℕ → List ℕ
 nodesLine nodes depth = line (ascii "nodes" ∷ decimal nodes ∷ ascii "depth" ∷ decimal depth ∷ [])
 
 -- the leaf at entry p of the leaf table t: node, centers, waters, box occupancy, shell waters, shell occupancy, partition score
-abbrev pub leafWords : List ℕ → ℕ → List (List ℕ)
-leafWords t p =
+abbrev pub leafRecords : List ℕ → ℕ → List (List ℕ)
+leafRecords t p =
     ascii "leaf"
     ∷ decimal (getD t p 0)
     ∷ decimal (getD t (p + 1) 0)
@@ -47,7 +47,7 @@ leafWords t p =
     ∷ []
 
 unfoldable pub leafLine : List ℕ → ℕ → List ℕ
-leafLine t p = line (leafWords t p)
+leafLine t p = line (leafRecords t p)
 
 -- n leaves of eight words each, from entry p of the leaf table on
 unfoldable pub leafLines : List ℕ → ℕ → ℕ → List ℕ

@@ -2,6 +2,7 @@
 // The text's length is counted before its first byte is written, so that a refusal changes nothing.
 ghost use mathlib.Core.Path.{_≡_};
 ghost use mathlib.Core.Bool.{false};
+ghost use Rattle.base.specs.Entry.{old};
 ghost use Rattle.listing.specs.Listing.{refusedText, blankText, listingText, leavesMissing, textAnswer, textAfter};
 
 // sizes.rt: how many bytes a text has
@@ -17,8 +18,8 @@ pub enum Listed {
 
 // `refused` and the number: 7, or the bytes written.
 pub fn put_refused(n: u32, out: &mut [u8]) -> Listed
-    ensures answer { λ r. ⌜ r ≡ textAnswer false (refusedText n) (now (out .entry)) ⌝ }
-    ensures after { λ r. ⌜ now (out .exit) ≡ textAfter false (refusedText n) (now (out .entry)) ⌝ }
+    ensures answer { λ r. ⌜ r ≡ textAnswer false (refusedText n) (old out) ⌝ }
+    ensures after { λ r. ⌜ now (out .exit) ≡ textAfter false (refusedText n) (old out) ⌝ }
 {
     let number = n as usize;
     if out.len() < 9 + text::decimal_places(number) {
@@ -30,8 +31,8 @@ pub fn put_refused(n: u32, out: &mut [u8]) -> Listed
 
 // `blank`: 7, or the bytes written.
 pub fn put_blank(out: &mut [u8]) -> Listed
-    ensures answer { λ r. ⌜ r ≡ textAnswer false blankText (now (out .entry)) ⌝ }
-    ensures after { λ r. ⌜ now (out .exit) ≡ textAfter false blankText (now (out .entry)) ⌝ }
+    ensures answer { λ r. ⌜ r ≡ textAnswer false blankText (old out) ⌝ }
+    ensures after { λ r. ⌜ now (out .exit) ≡ textAfter false blankText (old out) ⌝ }
 {
     if out.len() < 6 {
         return Listed::Refused(7);
@@ -53,8 +54,8 @@ pub fn put_listing(
     dry: usize,
     out: &mut [u8],
 ) -> Listed
-    ensures answer { λ r. ⌜ r ≡ textAnswer (leavesMissing (now (leaves .entry)) count) (listingText copies largest contacted pair dispersion nodes depth (now (leaves .entry)) count dry) (now (out .entry)) ⌝ }
-    ensures after { λ r. ⌜ now (out .exit) ≡ textAfter (leavesMissing (now (leaves .entry)) count) (listingText copies largest contacted pair dispersion nodes depth (now (leaves .entry)) count dry) (now (out .entry)) ⌝ }
+    ensures answer { λ r. ⌜ r ≡ textAnswer (leavesMissing (old leaves) count) (listingText copies largest contacted pair dispersion nodes depth (old leaves) count dry) (old out) ⌝ }
+    ensures after { λ r. ⌜ now (out .exit) ≡ textAfter (leavesMissing (old leaves) count) (listingText copies largest contacted pair dispersion nodes depth (old leaves) count dry) (old out) ⌝ }
 {
     if leaves.len() / 8 < count {
         return Listed::Refused(7);

@@ -7,7 +7,8 @@ use text::put_word;
 ghost use mathlib.Core.Path.{_≡_};
 ghost use Prim.Native.Nat.{_+_, _*_, _<_, _≤_};
 ghost use lib.ListN.{length, getD};
-ghost use Rattle.cell.specs.Tables.{placed};
+ghost use Rattle.base.specs.Entry.{old};
+ghost use Rattle.base.specs.Tables.{placed};
 ghost use Rattle.text.specs.Text.{decimal, followed};
 ghost use Rattle.listing.specs.Listing.{clustersLine, dispersionLine, nodesLine, leafLine, leafLines, dryLine, listingText};
 
@@ -20,7 +21,7 @@ pub(crate) fn put_clusters(
     at: usize,
 ) -> usize
     requires { ⌜ at + length (clustersLine copies largest contacted pair) ≤ length (now out) ⌝ }
-    ensures { λ r. ⌜ (r ≡ at + length (clustersLine copies largest contacted pair)) × (now (out .exit) ≡ placed at (clustersLine copies largest contacted pair) (now (out .entry))) ⌝ }
+    ensures { λ r. ⌜ (r ≡ at + length (clustersLine copies largest contacted pair)) × (now (out .exit) ≡ placed at (clustersLine copies largest contacted pair) (old out)) ⌝ }
 {
     let word = put_text(b"clusters ", out, at);
     let first = put_number(copies, b' ', out, word);
@@ -31,7 +32,7 @@ pub(crate) fn put_clusters(
 
 pub(crate) fn put_dispersion(dispersion: f32, out: &mut [u8], at: usize) -> usize
     requires { ⌜ at + length (dispersionLine dispersion) ≤ length (now out) ⌝ }
-    ensures { λ r. ⌜ (r ≡ at + length (dispersionLine dispersion)) × (now (out .exit) ≡ placed at (dispersionLine dispersion) (now (out .entry))) ⌝ }
+    ensures { λ r. ⌜ (r ≡ at + length (dispersionLine dispersion)) × (now (out .exit) ≡ placed at (dispersionLine dispersion) (old out)) ⌝ }
 {
     let word = put_text(b"dispersion ", out, at);
     put_bits(dispersion, b'\n', out, word)
@@ -39,7 +40,7 @@ pub(crate) fn put_dispersion(dispersion: f32, out: &mut [u8], at: usize) -> usiz
 
 pub(crate) fn put_nodes(nodes: usize, depth: usize, out: &mut [u8], at: usize) -> usize
     requires { ⌜ at + length (nodesLine nodes depth) ≤ length (now out) ⌝ }
-    ensures { λ r. ⌜ (r ≡ at + length (nodesLine nodes depth)) × (now (out .exit) ≡ placed at (nodesLine nodes depth) (now (out .entry))) ⌝ }
+    ensures { λ r. ⌜ (r ≡ at + length (nodesLine nodes depth)) × (now (out .exit) ≡ placed at (nodesLine nodes depth) (old out)) ⌝ }
 {
     let word = put_text(b"nodes ", out, at);
     let first = put_number(nodes, b' ', out, word);
@@ -50,7 +51,7 @@ pub(crate) fn put_nodes(nodes: usize, depth: usize, out: &mut [u8], at: usize) -
 // An entry of a table in decimal, and a blank.
 fn put_entry(table: &[u32], i: usize, out: &mut [u8], at: usize) -> usize
     requires { ⌜ (i < length (now table)) × (at + length (followed (decimal (getD (now table) i 0)) 32) ≤ length (now out)) ⌝ }
-    ensures { λ r. ⌜ (r ≡ at + length (followed (decimal (getD (now (table .entry)) i 0)) 32)) × (now (out .exit) ≡ placed at (followed (decimal (getD (now (table .entry)) i 0)) 32) (now (out .entry))) ⌝ }
+    ensures { λ r. ⌜ (r ≡ at + length (followed (decimal (getD (old table) i 0)) 32)) × (now (out .exit) ≡ placed at (followed (decimal (getD (old table) i 0)) 32) (old out)) ⌝ }
 {
     put_number(table[i] as usize, b' ', out, at)
 }
@@ -58,7 +59,7 @@ fn put_entry(table: &[u32], i: usize, out: &mut [u8], at: usize) -> usize
 // The leaf at entry p of the leaf table.
 fn put_leaf(leaves: &[u32], p: usize, out: &mut [u8], at: usize) -> usize
     requires { ⌜ (p + 8 ≤ length (now leaves)) × (at + length (leafLine (now leaves) p) ≤ length (now out)) ⌝ }
-    ensures { λ r. ⌜ (r ≡ at + length (leafLine (now (leaves .entry)) p)) × (now (out .exit) ≡ placed at (leafLine (now (leaves .entry)) p) (now (out .entry))) ⌝ }
+    ensures { λ r. ⌜ (r ≡ at + length (leafLine (old leaves) p)) × (now (out .exit) ≡ placed at (leafLine (old leaves) p) (old out)) ⌝ }
 {
     let word = put_text(b"leaf ", out, at);
     let node = put_entry(leaves, p, out, word);
@@ -73,7 +74,7 @@ fn put_leaf(leaves: &[u32], p: usize, out: &mut [u8], at: usize) -> usize
 // So many leaves, from the start of the leaf table on.
 pub(crate) fn put_leaves(leaves: &[u32], count: usize, out: &mut [u8], at: usize) -> usize
     requires { ⌜ (count * 8 ≤ length (now leaves)) × (at + length (leafLines (now leaves) count 0) ≤ length (now out)) ⌝ }
-    ensures { λ r. ⌜ (r ≡ at + length (leafLines (now (leaves .entry)) count 0)) × (now (out .exit) ≡ placed at (leafLines (now (leaves .entry)) count 0) (now (out .entry))) ⌝ }
+    ensures { λ r. ⌜ (r ≡ at + length (leafLines (old leaves) count 0)) × (now (out .exit) ≡ placed at (leafLines (old leaves) count 0) (old out)) ⌝ }
 {
     let mut end = at;
     let mut p: usize = 0;
@@ -88,7 +89,7 @@ pub(crate) fn put_leaves(leaves: &[u32], count: usize, out: &mut [u8], at: usize
 
 pub(crate) fn put_dry(dry: usize, out: &mut [u8], at: usize) -> usize
     requires { ⌜ at + length (dryLine dry) ≤ length (now out) ⌝ }
-    ensures { λ r. ⌜ (r ≡ at + length (dryLine dry)) × (now (out .exit) ≡ placed at (dryLine dry) (now (out .entry))) ⌝ }
+    ensures { λ r. ⌜ (r ≡ at + length (dryLine dry)) × (now (out .exit) ≡ placed at (dryLine dry) (old out)) ⌝ }
 {
     let word = put_text(b"dryleaves ", out, at);
     put_number(dry, b'\n', out, word)
@@ -109,7 +110,7 @@ pub(crate) fn put_lines(
     out: &mut [u8],
 ) -> usize
     requires { ⌜ (count * 8 ≤ length (now leaves)) × (length (listingText copies largest contacted pair dispersion nodes depth (now leaves) count dry) ≤ length (now out)) ⌝ }
-    ensures { λ r. ⌜ (r ≡ 0 + length (listingText copies largest contacted pair dispersion nodes depth (now (leaves .entry)) count dry)) × (now (out .exit) ≡ placed 0 (listingText copies largest contacted pair dispersion nodes depth (now (leaves .entry)) count dry) (now (out .entry))) ⌝ }
+    ensures { λ r. ⌜ (r ≡ 0 + length (listingText copies largest contacted pair dispersion nodes depth (old leaves) count dry)) × (now (out .exit) ≡ placed 0 (listingText copies largest contacted pair dispersion nodes depth (old leaves) count dry) (old out)) ⌝ }
 {
     let first = put_clusters(copies, largest, contacted, pair, out, 0);
     let second = put_dispersion(dispersion, out, first);

@@ -4,6 +4,7 @@ ghost use mathlib.Core.Path.{_≡_};
 ghost use Prim.Native.Nat.{_+_, _*_, _<_, _≤_};
 ghost use lib.ListN.{length, getD};
 ghost use lib.Dec.{leb};
+ghost use Rattle.base.specs.Entry.{old};
 ghost use Rattle.text.specs.Text.{places, occupancy};
 ghost use Rattle.listing.specs.Listing.{leafLine, leafLines};
 
@@ -16,7 +17,7 @@ fn occupancy_size(w: u32) -> usize
 
 fn entry_places(table: &[u32], at: usize) -> usize
     requires { ⌜ at < length (now table) ⌝ }
-    ensures { λ r. ⌜ (r ≡ places (getD (now (table .entry)) at 0)) × (r ≤ 20) ⌝ }
+    ensures { λ r. ⌜ (r ≡ places (getD (old table) at 0)) × (r ≤ 20) ⌝ }
 {
     decimal_places(table[at] as usize)
 }
@@ -24,7 +25,7 @@ fn entry_places(table: &[u32], at: usize) -> usize
 // The line of the leaf at entry p.
 fn leaf_size(leaves: &[u32], p: usize) -> usize
     requires { ⌜ p + 8 ≤ length (now leaves) ⌝ }
-    ensures { λ r. ⌜ r ≡ length (leafLine (now (leaves .entry)) p) ⌝ }
+    ensures { λ r. ⌜ r ≡ length (leafLine (old leaves) p) ⌝ }
 {
     20
         + entry_places(leaves, p)
@@ -38,7 +39,7 @@ fn leaf_size(leaves: &[u32], p: usize) -> usize
 // Whether the lines of so many leaves have at most so many bytes. The room is used up a line at a time, so that no sum wraps.
 pub(crate) fn leaves_fit(leaves: &[u32], count: usize, room: usize) -> bool
     requires { ⌜ count * 8 ≤ length (now leaves) ⌝ }
-    ensures { λ r. ⌜ r ≡ leb (length (leafLines (now (leaves .entry)) count 0)) room ⌝ }
+    ensures { λ r. ⌜ r ≡ leb (length (leafLines (old leaves) count 0)) room ⌝ }
 {
     let mut left = room;
     let mut p: usize = 0;

@@ -8,13 +8,14 @@ use lib.Dec.{ltb}
 use lib.ListN.{length}
 use lib.Ieee.{Float}
 use borrow.Author.Tests.{ltb-false}
-use Rattle.cell.specs.Refusals.{firstRefusal}
+use Rattle.base.specs.Refusals.{firstRefusal}
 use Rattle.leaf_table.proofs.LeafList.{reported-few}
 use Rattle.leaf_table.specs.LeafTable.{reportedLeaves}
+use Rattle.tree.specs.Tree.{frameTree}
 use Rattle.report.specs.Report.{reportRoom}
 use Rattle.mixing.specs.declared.FrameAnswer.the-variants.{Blank, Mixed}
 use Rattle.mixing.specs.declared.FrameAnswer.{FrameAnswer}
-use Rattle.mixing.specs.Frame.{Frame, Tables, treeIn, sized, limited, blankHolds, refusedOr, mixedAnswer, frameRefusal, frameBlank, frameAnswer}
+use Rattle.mixing.specs.Frame.{Frame, FrameTables, treeInput, sized, limited, blankHolds, refusedOr, mixedAnswer, frameRefusal, frameBlank, frameAnswer}
 use Rattle.mixing.proofs.Outcomes.{Passed, roomNumber, number-limit, number-size, number-room, blank-is}
 
 -- a number that is 0, or has another for its own, is 0 where the other is
@@ -29,7 +30,7 @@ nodes-fit room n e = by-test (ltb room n) refl e
     by-test true h z = absurd (omega (arith, z))
     by-test false h z = ltb-false room n h
 
-module _ (f : Frame) (t : Tables) where
+module _ (f : Frame) (t : FrameTables) where
   -- ---- neither blank nor refused
   module _ (b : frameBlank f ≡ false) (e : frameRefusal f t ≡ 0) where
     limits-none : firstRefusal (limited f) ≡ 0
@@ -48,13 +49,13 @@ module _ (f : Frame) (t : Tables) where
   pub record Answered (a : FrameAnswer) : Type 0 where
     pub passed : Passed f t
     pub unrefused : roomNumber f t ≡ 0
-    pub nodes-few : length (treeIn f .nodes) ≤ reportRoom (t .records) (t .boxes) (t .leaves)
+    pub nodes-few : length (frameTree (treeInput f) .nodes) ≤ reportRoom (t .tree) (t .leaves)
     pub is : a ≡ mixedAnswer f t
 
   module _ {copies picks : ℕ} {largest contacted pair dispersion : Float} {nodes depth leaves dry : ℕ} where
     pub answered : Mixed copies picks largest contacted pair dispersion nodes depth leaves dry ≡ frameAnswer f t
         → Answered (Mixed copies picks largest contacted pair dispersion nodes depth leaves dry)
-    unfolding frameAnswer
+    unfolding frameAnswer firstRefusal
     answered h = by-blank (frameBlank f) refl (frameRefusal f t) refl h
       where
         by-blank : (b : Bool) → frameBlank f ≡ b → (r : ℕ) → frameRefusal f t ≡ r
@@ -68,5 +69,5 @@ module _ (f : Frame) (t : Tables) where
     unfolding mixedAnswer
     listed-leaves h =
         let a = answered h in
-        let e : leaves ≡ reportedLeaves (treeIn f .nodes) = cc (a .is) in
-        omega (arith, a .nodes-few, reported-few (treeIn f .nodes))
+        let e : leaves ≡ reportedLeaves (frameTree (treeInput f) .nodes) = cc (a .is) in
+        omega (arith, a .nodes-few, reported-few (frameTree (treeInput f) .nodes))

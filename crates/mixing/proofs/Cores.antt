@@ -5,14 +5,13 @@ use lib.ListN.{length}
 use Rattle.cluster_table.specs.Fractions.{tableFractions}
 use Rattle.scan.specs.Scan.{scanned}
 use Rattle.dispersion.specs.Dispersion.{dispersionOf}
-use Rattle.report.specs.Report.{reportAnswer}
+use Rattle.report.specs.Report.{answerBy}
 use Rattle.mixing.specs.Inner.{withReport}
-use Rattle.mixing.specs.Frame.{Frame, Tables, kept, startList, pickNumbers, treeIn, refusedOr, mixedAnswer}
+use Rattle.mixing.specs.Frame.{Frame, FrameTables, kept, pickNumbers, scanInput, treeInput, refusedOr, mixedAnswer}
 
-pub cores-answer : (f : Frame) (t : Tables) (r : ℕ)
-    → withReport (length (kept f)) (length (pickNumbers f)) (tableFractions (scanned (f .cell) (f .solutes) (startList f) (pickNumbers f) (t .clusters)))
-    (dispersionOf (f .cell) (f .solutes) (startList f) (pickNumbers f)) (reportAnswer r (treeIn f .nodes))
+pub cores-answer : (f : Frame) (t : FrameTables) (r : ℕ)
+    → withReport (length (kept f)) (length (pickNumbers f)) (tableFractions (scanned (scanInput f) (t .clusters))) (dispersionOf (scanInput f)) (answerBy r (treeInput f))
     ≡ refusedOr r (mixedAnswer f t)
-unfolding mixedAnswer reportAnswer
+unfolding mixedAnswer answerBy
 cores-answer f t zero = refl
 cores-answer f t (suc r) = refl

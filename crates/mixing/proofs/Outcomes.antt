@@ -1,36 +1,33 @@
 -- What the whole frame answers and leaves, test by test. Assumes nothing.
 use mathlib.Core.Path.{_≡_, refl, sym, _∙_}
 use mathlib.Core.Bool.{Bool, true, false, cond}
-use mathlib.Core.List.{List, []}
+use mathlib.Core.List.{List, [], _∷_}
 use Prim.Native.Nat.{ℕ}
 use native.Mathlib.Omega.{arith}
-use lib.Dec.{ltb}
-use lib.ListN.{length}
 use borrow.Author.Tests.{eq-eqb, ne-eqb}
-use Rattle.cell.specs.Refusals.{Refusal, firstRefusal}
+use Rattle.base.specs.Refusals.{Refusal, firstRefusal}
 use Rattle.frame_limits.specs.Limits.{limitRefusals, lengths, counts, bounds, coordinates}
-use Rattle.cell.proofs.FirstRefusal.{numbered, append-hit, append-skip}
+use Rattle.base.proofs.FirstRefusal.{numbered, append-hit, append-skip, at-refusal}
 use Rattle.frame_limits.proofs.FrameRefusals.{limit-numbered}
-use Rattle.cell.proofs.Tables.{at-refusal}
-use Rattle.octree.specs.Tree.{treeRefusal}
-use Rattle.tree.specs.Tree.{byOutcome, roomRefusal}
+use Rattle.octree.specs.Tree.{roomRefusal, byNumber}
+use Rattle.tree.specs.Tree.{frameTree}
 use Rattle.tree.proofs.TreeRefusals.{without, first-without}
 use Rattle.report.specs.Report.{reportRoom}
 use Rattle.mixing.specs.declared.FrameAnswer.the-variants.{Refused, Blank}
 use Rattle.frame_tests.specs.Tests.{sizeRefusals}
-use Rattle.mixing.specs.Frame.{Frame, Tables, treeIn, sized, tableRefusals, limited, blankHolds, frameRefusal, frameBlank, refusedOr, mixedAnswer, frameAnswer, worked, tablesAfter}
+use Rattle.mixing.specs.Frame.{Frame, FrameTables, treeInput, sized, tableRefusals, limited, blankHolds, frameRefusal, frameBlank, refusedOr, mixedAnswer, frameAnswer, worked, frameAfter}
 
 -- what Report refuses over the frame's pick lists: 13 or nothing
-abbrev pub roomNumber : Frame → Tables → ℕ
-roomNumber f t = treeRefusal (reportRoom (t .records) (t .boxes) (t .leaves)) (treeIn f)
+abbrev pub roomNumber : Frame → FrameTables → ℕ
+roomNumber f t = firstRefusal (roomRefusal (reportRoom (t .tree) (t .leaves)) (frameTree (treeInput f)) ∷ [])
 
 -- a frame that is not blank and passes every test but 13
-pub record Passed (f : Frame) (t : Tables) : Type 0 where
+pub record Passed (f : Frame) (t : FrameTables) : Type 0 where
   pub within : firstRefusal (limited f) ≡ 0
   pub some : blankHolds f ≡ false
   pub fits : firstRefusal (sized f t) ≡ 0
 
-module _ (f : Frame) (t : Tables) where
+module _ (f : Frame) (t : FrameTables) where
   -- ---- the number
   rest : List Refusal
   rest = cond (blankHolds f) [] (tableRefusals f t)
@@ -44,11 +41,11 @@ module _ (f : Frame) (t : Tables) where
   number-rest e = append-skip (limited f) rest (limit-numbered (f .cell) (f .solutes) (f .waters) (f .indices)) e
 
   -- ---- what a refusal other than 13 answers and leaves, where the frame is not blank
-  same-tables : (r : ℕ) → (r ≡ 0 → ⊥) → (r ≡ 13 → ⊥) → byOutcome r (worked 0 f t) (worked 13 f t) t ≡ t
+  same-tables : (r : ℕ) → (r ≡ 0 → ⊥) → (r ≡ 13 → ⊥) → byNumber r (worked 0 f t) (worked 13 f t) t ≡ t
   same-tables r a b = rw (ne-eqb r 0 a, ne-eqb r 13 b)
 
-  answers : frameBlank f ≡ false → (r : ℕ) → frameRefusal f t ≡ r → (r ≡ 0 → ⊥) → (r ≡ 13 → ⊥) → (Refused r ≡ frameAnswer f t) × (t ≡ tablesAfter f t)
-  unfolding frameAnswer tablesAfter
+  answers : frameBlank f ≡ false → (r : ℕ) → frameRefusal f t ≡ r → (r ≡ 0 → ⊥) → (r ≡ 13 → ⊥) → (Refused r ≡ frameAnswer f t) × (t ≡ frameAfter f t)
+  unfolding frameAnswer frameAfter
   answers b r e n m = rw (b, e) (sym (at-refusal r _ (Refused r) n), sym (same-tables r n m))
 
   -- ---- 1, 2, 3, 4
@@ -60,7 +57,7 @@ module _ (f : Frame) (t : Tables) where
   unfolding frameBlank
   not-blank n = rw (ne-eqb (firstRefusal (limited f)) 0 n)
 
-  pub outcome-limit : (r : ℕ) → r ≡ firstRefusal (limited f) → (r ≡ 0 → ⊥) → (Refused r ≡ frameAnswer f t) × (t ≡ tablesAfter f t)
+  pub outcome-limit : (r : ℕ) → r ≡ firstRefusal (limited f) → (r ≡ 0 → ⊥) → (Refused r ≡ frameAnswer f t) × (t ≡ frameAfter f t)
   outcome-limit r e n = answers (not-blank (λ z. n (e ∙ z))) r (number-limit (λ z. n (e ∙ z)) ∙ sym e) n (λ z. limit-not-13 (sym e ∙ z))
 
   -- ---- none of these holds
@@ -69,8 +66,8 @@ module _ (f : Frame) (t : Tables) where
     unfolding frameBlank
     blank-is = rw (eq-eqb (firstRefusal (limited f)) 0 within)
 
-    pub outcome-blank : blankHolds f ≡ true → (Blank ≡ frameAnswer f t) × (t ≡ tablesAfter f t)
-    unfolding frameAnswer tablesAfter
+    pub outcome-blank : blankHolds f ≡ true → (Blank ≡ frameAnswer f t) × (t ≡ frameAfter f t)
+    unfolding frameAnswer frameAfter
     outcome-blank e = rw (blank-is, e) (refl, refl)
 
     -- ---- 5, 6, 7
@@ -92,10 +89,10 @@ module _ (f : Frame) (t : Tables) where
       number-size n = number-tables ∙ append-hit (sized f t) _ size-numbered n
 
       pub number-room : firstRefusal (sized f t) ≡ 0 → frameRefusal f t ≡ roomNumber f t
-      unfolding tableRefusals roomRefusal firstRefusal
+      unfolding tableRefusals
       number-room e = number-tables ∙ append-skip (sized f t) _ size-numbered e
 
-      pub outcome-size : (r : ℕ) → r ≡ firstRefusal (sized f t) → (r ≡ 0 → ⊥) → (Refused r ≡ frameAnswer f t) × (t ≡ tablesAfter f t)
+      pub outcome-size : (r : ℕ) → r ≡ firstRefusal (sized f t) → (r ≡ 0 → ⊥) → (Refused r ≡ frameAnswer f t) × (t ≡ frameAfter f t)
       outcome-size r e n = answers (blank-is ∙ some) r (number-size (λ z. n (e ∙ z)) ∙ sym e) n (λ z. size-not-13 (sym e ∙ z))
 
   -- ---- what is left is Report's answer, 13 or none
@@ -110,10 +107,10 @@ module _ (f : Frame) (t : Tables) where
     unfolding frameAnswer
     answer-worked = rw (not-blank-is, number-is)
 
-    pub tables-worked : worked (roomNumber f t) f t ≡ tablesAfter f t
-    unfolding tablesAfter
-    tables-worked = rw (not-blank-is, number-is) (by-room (ltb (reportRoom (t .records) (t .boxes) (t .leaves)) (length (treeIn f .nodes))))
+    pub tables-worked : worked (roomNumber f t) f t ≡ frameAfter f t
+    unfolding frameAfter firstRefusal
+    tables-worked = rw (not-blank-is, number-is) (by-room (roomRefusal (reportRoom (t .tree) (t .leaves)) (frameTree (treeInput f)) .holds))
       where
-        by-room : (b : Bool) → worked (cond b 13 0) f t ≡ byOutcome (cond b 13 0) (worked 0 f t) (worked 13 f t) t
+        by-room : (b : Bool) → worked (cond b 13 0) f t ≡ byNumber (cond b 13 0) (worked 0 f t) (worked 13 f t) t
         by-room true = refl
         by-room false = refl

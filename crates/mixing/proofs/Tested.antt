@@ -2,22 +2,24 @@
 use mathlib.Core.Path.{_≡_, sym, ap, _∙_}
 use mathlib.Core.Bool.{true, false, not, _||_}
 use mathlib.Core.List.{List, [], _∷_}
-use Prim.Native.Nat.{ℕ, _+_, _≤_}
+use Prim.Native.Nat.{ℕ, _+_, _≤_, _*_}
 use native.Mathlib.Omega.{arith}
 use lib.Dec.{ltb}
 use lib.ListN.{length, take, drop}
 use lib.Seq.{take-at, take-append-seam}
 use borrow.Author.Tests.{ltb-false, not-false}
+use Rattle.base.specs.Limits.{maxAtoms, maxIndices, maxCopies, maxPicks}
 use Rattle.cell.specs.Cell.{valid}
-use Rattle.cell.specs.Refusals.{refuse, firstRefusal}
+use Rattle.base.specs.Refusals.{refuse, firstRefusal}
 use Rattle.frame_limits.specs.Limits.{long, longIndices}
-use Rattle.cell.specs.Tables.{over}
-use Rattle.cell.proofs.FirstRefusal.{first-none, neither}
+use Rattle.base.specs.Tables.{over}
+use Rattle.base.proofs.FirstRefusal.{first-none}
+use Rattle.base.proofs.Tests.{neither}
 use Rattle.frame_limits.proofs.FrameRefusals.{Within, limit-none, within-solutes}
 use Rattle.selection.specs.declared.Selected.the-variants.{Kept}
 use Rattle.selection.specs.Selection.{startsOf}
-use Rattle.pick_lists.specs.Sound.{copiesIn, soundLists}
-use Rattle.pick_lists.specs.Input.{inputRefusals}
+use Rattle.pick_lists.specs.Sound.{copies, soundLists}
+use Rattle.pick_lists.specs.Input.{given, inputRefusals}
 use Rattle.selection.proofs.SelectRefusals.{Answers, selected, both-within}
 use Rattle.selection.proofs.SoundSelect.{select-sound, starts-length, starts-copies}
 use Rattle.pick_lists.proofs.InputRefusals.{input-sound, input-accepted}
@@ -25,10 +27,10 @@ use Rattle.cluster_table.specs.Table.{words, soundTable}
 use Rattle.scan.specs.Scan.{scanned}
 use Rattle.scan.proofs.Scans.{scanned-long, scanned-sound}
 use Rattle.points.specs.Points.{finiteWaters}
-use Rattle.tree.specs.Tree.{frameTree, centerOrderAfter, waterOrderAfter, recordsAfter, boxesAfter}
-use Rattle.report.specs.Report.{leavesAfter}
+use Rattle.tree.specs.Tree.{inputAfter}
+use Rattle.report.specs.Report.{leavesBy}
 use Rattle.frame_tests.specs.Tests.{isBlank, sizeRefusals}
-use Rattle.mixing.specs.Frame.{Frame, Tables, lent, kept, startList, pickNumbers, treeIn, sized, limited, blankHolds, worked, tablesAfter}
+use Rattle.mixing.specs.Frame.{Frame, FrameTables, kept, startList, pickNumbers, scanInput, sized, limited, blankHolds, worked, frameAfter}
 use Rattle.mixing.proofs.Outcomes.{Passed, roomNumber, tables-worked}
 
 -- ---- what the limits establish
@@ -37,53 +39,57 @@ module _ (f : Frame) (none : firstRefusal (limited f) ≡ 0) where
   unfolding limited
   within-limits = limit-none (f .cell) (f .solutes) (f .waters) (f .indices) none
 
-  pub solutes-few : length (f .solutes) ≤ 196608
+  pub solutes-few : length (f .solutes) ≤ maxAtoms * 3
   unfolding long
-  solutes-few = ltb-false 196608 (length (f .solutes)) (within-limits .solutes-few)
+  solutes-few = ltb-false (maxAtoms * 3) (length (f .solutes)) (within-limits .solutes-few)
 
-  pub waters-few : length (f .waters) ≤ 196608
+  pub waters-few : length (f .waters) ≤ maxAtoms * 3
   unfolding long
-  waters-few = ltb-false 196608 (length (f .waters)) (within-limits .waters-few)
+  waters-few = ltb-false (maxAtoms * 3) (length (f .waters)) (within-limits .waters-few)
 
-  pub indices-few : length (f .indices) ≤ 256
+  pub indices-few : length (f .indices) ≤ maxIndices
   unfolding longIndices
-  indices-few = ltb-false 256 (length (f .indices)) (within-limits .indices-few)
+  indices-few = ltb-false maxIndices (length (f .indices)) (within-limits .indices-few)
 
 -- ---- what 5, 6 and 7 establish
-pub record Room (f : Frame) (t : Tables) : Type 0 where
-  pub few : length (kept f) ≤ 4096
-  pub light : length (pickNumbers f) ≤ 65536
+pub record Room (f : Frame) (t : FrameTables) : Type 0 where
+  pub few : length (kept f) ≤ maxCopies
+  pub light : length (pickNumbers f) ≤ maxPicks
   -- as the test has it
   pub lists-long : (ltb (length (t .starts)) (length (kept f) + 1) || ltb (length (t .picks)) (length (pickNumbers f))) ≡ false
   pub clusters-fit : words (length (kept f)) ≤ length (t .clusters)
-  pub orders-fit : (length (kept f) ≤ length (t .centerOrder)) × (finiteWaters (f .waters) ≤ length (t .waterOrder))
+  pub orders-fit : (length (kept f) ≤ length (t .tree .centerOrder)) × (finiteWaters (f .waters) ≤ length (t .tree .waterOrder))
 
 -- what Select and then the cores leave: these read the pick lists given here, and Report's number is r
-abbrev pub coresLeave : Frame → Tables → List ℕ → List ℕ → ℕ → Tables
+abbrev pub coresLeave : Frame → FrameTables → List ℕ → List ℕ → ℕ → FrameTables
 coresLeave f t starts picks r =
-    let tree = frameTree (f .cell) (f .solutes) (f .waters) starts picks in
-    lent (over (startList f) (t .starts)) (over (pickNumbers f) (t .picks)) (scanned (f .cell) (f .solutes) starts picks (t .clusters))
-    (centerOrderAfter r tree (copiesIn starts) (t .centerOrder)) (waterOrderAfter r tree (finiteWaters (f .waters)) (t .waterOrder))
-    (recordsAfter r tree (t .records)) (boxesAfter r tree (t .boxes)) (leavesAfter r (f .cell) (f .waters) starts (tree .nodes) (t .leaves))
+    let g = given (f .cell) (f .solutes) (f .waters) starts picks in
+    record {
+      starts = over (startList f) (t .starts);
+      picks = over (pickNumbers f) (t .picks);
+      clusters = scanned (given (f .cell) (f .solutes) [] starts picks) (t .clusters);
+      tree = inputAfter r g (t .tree);
+      leaves = leavesBy r g (t .leaves);
+    }
 
-module _ (f : Frame) (t : Tables) (p : Passed f t) where
+module _ (f : Frame) (t : FrameTables) (p : Passed f t) where
   pub room : Room f t
   unfolding sized sizeRefusals
   room =
       let lists = ltb (length (t .starts)) (length (kept f) + 1) || ltb (length (t .picks)) (length (pickNumbers f)) in
-      let orders = ltb (length (t .centerOrder)) (length (kept f)) || ltb (length (t .waterOrder)) (finiteWaters (f .waters)) in
+      let orders = ltb (length (t .tree .centerOrder)) (length (kept f)) || ltb (length (t .tree .waterOrder)) (finiteWaters (f .waters)) in
       let seven = refuse 7 (lists || (ltb (length (t .clusters)) (words (length (kept f))) || orders)) in
-      let n5 = first-none (refuse 5 (ltb 4096 (length (kept f)))) (refuse 6 (ltb 65536 (length (pickNumbers f))) ∷ seven ∷ []) (λ h. omega arith) (p .fits) in
-      let n6 = first-none (refuse 6 (ltb 65536 (length (pickNumbers f)))) (seven ∷ []) (λ h. omega arith) (n5 .1) in
+      let n5 = first-none (refuse 5 (ltb maxCopies (length (kept f)))) (refuse 6 (ltb maxPicks (length (pickNumbers f))) ∷ seven ∷ []) (λ h. omega arith) (p .fits) in
+      let n6 = first-none (refuse 6 (ltb maxPicks (length (pickNumbers f)))) (seven ∷ []) (λ h. omega arith) (n5 .1) in
       let n7 = first-none seven [] (λ h. omega arith) (n6 .1) in
       let e = neither lists _ (n7 .0) in
       let g = neither (ltb (length (t .clusters)) (words (length (kept f)))) orders (e .1) in
       record {
-        few = ltb-false 4096 (length (kept f)) (n5 .0);
-        light = ltb-false 65536 (length (pickNumbers f)) (n6 .0);
+        few = ltb-false maxCopies (length (kept f)) (n5 .0);
+        light = ltb-false maxPicks (length (pickNumbers f)) (n6 .0);
         lists-long = e .0;
         clusters-fit = ltb-false (length (t .clusters)) (words (length (kept f))) (g .0);
-        orders-fit = both-within (length (t .centerOrder)) (length (kept f)) (length (t .waterOrder)) (finiteWaters (f .waters)) (g .1);
+        orders-fit = both-within (length (t .tree .centerOrder)) (length (kept f)) (length (t .tree .waterOrder)) (finiteWaters (f .waters)) (g .1);
       }
 
   pub lists-fit : (length (kept f) + 1 ≤ length (t .starts)) × (length (pickNumbers f) ≤ length (t .picks))
@@ -94,30 +100,30 @@ module _ (f : Frame) (t : Tables) (p : Passed f t) where
   unfolding blankHolds isBlank
   valid-cell = not-false (valid (f .cell)) (neither (not (valid (f .cell))) _ (p .some) .0)
 
-  pub fine : firstRefusal (inputRefusals (f .cell) (f .solutes) [] (startList f) (pickNumbers f)) ≡ 0
+  pub fine : firstRefusal (inputRefusals (scanInput f)) ≡ 0
   unfolding startList pickNumbers kept
   fine =
-      sym (input-sound (f .cell) (f .solutes) [] (startList f) (pickNumbers f)
+      sym (input-sound (scanInput f)
       (within-solutes (f .cell) (f .solutes) (f .waters) (f .indices) (within-limits f (p .within)) valid-cell)
       (select-sound (f .solutes) (f .per) (f .indices) (room .few) (room .light)))
 
-  copies-are : copiesIn (startList f) ≡ length (kept f)
+  copies-are : copies (startList f) ≡ length (kept f)
   unfolding startList
   copies-are = starts-copies (kept f)
 
-  pub cores-fit : ((length (f .waters) ≤ 196608) × (words (copiesIn (startList f)) ≤ length (t .clusters)))
-      × ((copiesIn (startList f) ≤ length (t .centerOrder)) × (finiteWaters (f .waters) ≤ length (t .waterOrder)))
+  pub cores-fit : ((length (f .waters) ≤ maxAtoms * 3) × (words (copies (startList f)) ≤ length (t .clusters)))
+      × ((copies (startList f) ≤ length (t .tree .centerOrder)) × (finiteWaters (f .waters) ≤ length (t .tree .waterOrder)))
   cores-fit = rw copies-are ((waters-few f (p .within), room .clusters-fit), room .orders-fit)
 
   pub lists-sound : soundLists (f .solutes) (startList f) (pickNumbers f) ≡ true
-  lists-sound = input-accepted (f .cell) (f .solutes) [] (startList f) (pickNumbers f) fine .1
+  lists-sound = input-accepted (scanInput f) fine .1
 
   -- the scanned table, for as many copies as there are
-  pub table-sound : (n : ℕ) (table : List ℕ) → n ≡ length (kept f) → table ≡ scanned (f .cell) (f .solutes) (startList f) (pickNumbers f) (t .clusters)
-      → ((n ≤ 4096) × (words n ≤ length table)) × (soundTable n table ≡ true)
+  pub table-sound : (n : ℕ) (table : List ℕ) → n ≡ length (kept f) → table ≡ scanned (scanInput f) (t .clusters)
+      → ((n ≤ maxCopies) × (words n ≤ length table)) × (soundTable n table ≡ true)
   table-sound n table e h =
-      let table-long = scanned-long (f .cell) (f .solutes) (startList f) (pickNumbers f) (t .clusters) fine (cores-fit .0 .1) in
-      let table-fine = scanned-sound (f .cell) (f .solutes) (startList f) (pickNumbers f) (t .clusters) fine (cores-fit .0 .1) in
+      let table-long = scanned-long (scanInput f) (t .clusters) fine (cores-fit .0 .1) in
+      let table-fine = scanned-sound (scanInput f) (t .clusters) fine (cores-fit .0 .1) in
       rw (e, h) ((room .few, rw copies-are at table-long), rw copies-are at table-fine)
 
   -- ---- what the cores leave is what the frame leaves
@@ -128,8 +134,8 @@ module _ (f : Frame) (t : Tables) (p : Passed f t) where
       let w = within-limits f (p .within) in
       selected (f .solutes) (f .per) (f .indices) (t .starts) (t .picks) (w .solutes-whole) (rw (w .solutes-few) (w .indices-few)) (w .solutes-within) (room .few) (room .light) (room .lists-long)
 
-  pub worked-tables : coresLeave f t (startList f) (pickNumbers f) (roomNumber f t) ≡ tablesAfter f t
-  unfolding worked treeIn
+  pub worked-tables : coresLeave f t (startList f) (pickNumbers f) (roomNumber f t) ≡ frameAfter f t
+  unfolding worked
   worked-tables = rw (selects .1 .0, selects .1 .1) (tables-worked f t p)
 
 -- ---- the pick lists, as the frame lends them

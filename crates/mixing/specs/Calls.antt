@@ -11,20 +11,19 @@ use Rattle.scan.specs.Scan.{scanned}
 use Rattle.dispersion.specs.declared.Dispersed.the-variants.{Score}
 use Rattle.dispersion.specs.Dispersion.{dispersionAnswer}
 use Rattle.report.specs.declared.Reported.the-variants.{Leaves}
-use Rattle.report.specs.Report.{reportRefusal, reportAnswer}
+use Rattle.report.specs.Report.{reportAnswer}
 use Rattle.mixing.specs.declared.FrameAnswer.the-variants.{Mixed}
-use Rattle.mixing.specs.Frame.{Frame, Tables, startList, pickNumbers, treeIn, frameAnswer}
+use Rattle.mixing.specs.Frame.{Frame, FrameTables, scanInput, treeInput, frameAnswer}
 
 -- what the calls answer on the frame: Select on its lists, and the others on the pick lists and the scanned table
-pub record Calls (f : Frame) (t : Tables) (copies picks : ℕ) (largest contacted pair dispersion : Float) (nodes depth leaves dry : ℕ) : Type 0 where
+pub record Calls (f : Frame) (t : FrameTables) (copies picks : ℕ) (largest contacted pair dispersion : Float) (nodes depth leaves dry : ℕ) : Type 0 where
   pub select : selectAnswer (f .solutes) (f .per) (f .indices) (t .starts) (t .picks) ≡ Kept copies picks
-  pub close : closeAnswer (scanned (f .cell) (f .solutes) (startList f) (pickNumbers f) (t .clusters)) ≡ Fractions largest contacted pair
-  pub disperse : dispersionAnswer (f .cell) (f .solutes) (startList f) (pickNumbers f) ≡ Score dispersion
-  pub report : reportAnswer (reportRefusal (f .cell) (f .solutes) (f .waters) (startList f) (pickNumbers f) (t .centerOrder) (t .waterOrder) (t .records) (t .boxes) (t .leaves)) (treeIn f .nodes)
-      ≡ Leaves nodes depth leaves dry
+  pub close : closeAnswer (scanned (scanInput f) (t .clusters)) ≡ Fractions largest contacted pair
+  pub disperse : dispersionAnswer (scanInput f) ≡ Score dispersion
+  pub report : reportAnswer (treeInput f) (t .tree) (t .leaves) ≡ Leaves nodes depth leaves dry
 
 abbrev pub AnswersAsCalls : Type 0
 AnswersAsCalls =
-    (f : Frame) (t : Tables) (copies picks : ℕ) (largest contacted pair dispersion : Float) (nodes depth leaves dry : ℕ)
+    (f : Frame) (t : FrameTables) (copies picks : ℕ) (largest contacted pair dispersion : Float) (nodes depth leaves dry : ℕ)
     → frameAnswer f t ≡ Mixed copies picks largest contacted pair dispersion nodes depth leaves dry
     → Calls f t copies picks largest contacted pair dispersion nodes depth leaves dry

@@ -7,20 +7,20 @@ use lib.Dec.{eqb}
 use lib.ListN.{length}
 use lib.Ieee.{Float}
 use Rattle.cell.specs.declared.Cell.{Cell}
-use Rattle.cell.specs.Refusals.{Refusal, firstRefusal}
+use Rattle.base.specs.Refusals.{Refusal, firstRefusal}
 use Rattle.frame_limits.specs.Limits.{limitRefusals}
-use Rattle.cell.specs.Tables.{unlessRefused}
-use Rattle.selection.specs.Selection.{keptCopies, joined, startsOf, selectStarts, selectPicks}
-use Rattle.pick_lists.specs.Sound.{copiesIn}
+use Rattle.base.specs.Tables.{unlessRefused}
+use Rattle.selection.specs.Selection.{keptCopies, startsOf, picksOf, selectStarts, selectPicks}
+use Rattle.pick_lists.specs.Input.{Input, given}
 use Rattle.cluster_table.specs.Fractions.{tableFractions}
 use Rattle.scan.specs.Scan.{scanned}
 use Rattle.dispersion.specs.Dispersion.{dispersionOf}
 use Rattle.nodes.specs.Nodes.{deepest}
-use Rattle.octree.specs.Tree.{Subtrees}
+use Rattle.octree.specs.Tree.{roomRefusal, TreeTables, treeTables, byNumber}
 use Rattle.points.specs.Points.{finiteWaters}
-use Rattle.tree.specs.Tree.{frameTree, roomRefusal, byOutcome, centerOrderAfter, waterOrderAfter, recordsAfter, boxesAfter}
+use Rattle.tree.specs.Tree.{frameTree, inputAfter}
 use Rattle.leaf_table.specs.LeafTable.{reportedLeaves, dryLeaves}
-use Rattle.report.specs.Report.{reportRoom, leavesAfter}
+use Rattle.report.specs.Report.{reportRoom, leavesBy}
 use Rattle.frame_tests.specs.Tests.{isBlank, sizeRefusals}
 use Rattle.mixing.specs.declared.FrameAnswer.{FrameAnswer}
 use Rattle.mixing.specs.declared.FrameAnswer.the-variants.{Refused, Blank, Mixed}
@@ -34,31 +34,19 @@ pub record Frame : Type 0 where
   pub indices : List ℕ
   pub waters : List Float
 
-abbrev pub given : Cell → List Float → ℕ → List ℕ → List Float → Frame
-given c solutes per indices waters = record { cell = c; solutes = solutes; per = per; indices = indices; waters = waters }
+abbrev pub frameOf : Cell → List Float → ℕ → List ℕ → List Float → Frame
+frameOf c solutes per indices waters = record { cell = c; solutes = solutes; per = per; indices = indices; waters = waters }
 
-pub record Tables : Type 0 where
+pub record FrameTables : Type 0 where
   pub starts : List ℕ
   pub picks : List ℕ
   pub clusters : List ℕ
-  pub centerOrder : List ℕ
-  pub waterOrder : List ℕ
-  pub records : List ℕ
-  pub boxes : List Float
+  pub tree : TreeTables
   pub leaves : List ℕ
 
-abbrev pub lent : List ℕ → List ℕ → List ℕ → List ℕ → List ℕ → List ℕ → List Float → List ℕ → Tables
-lent starts picks clusters centerOrder waterOrder records boxes leaves =
-    record {
-      starts = starts;
-      picks = picks;
-      clusters = clusters;
-      centerOrder = centerOrder;
-      waterOrder = waterOrder;
-      records = records;
-      boxes = boxes;
-      leaves = leaves;
-    }
+abbrev pub frameTables : List ℕ → List ℕ → List ℕ → List ℕ → List ℕ → List ℕ → List Float → List ℕ → FrameTables
+frameTables starts picks clusters centerOrder waterOrder records boxes leaves =
+    record { starts = starts; picks = picks; clusters = clusters; tree = treeTables centerOrder waterOrder records boxes; leaves = leaves }
 
 -- ---- the parts
 -- the kept copies, and the pick lists of them
@@ -69,22 +57,25 @@ unfoldable pub startList : Frame → List ℕ
 startList f = startsOf (kept f)
 
 unfoldable pub pickNumbers : Frame → List ℕ
-pickNumbers f = joined (kept f)
+pickNumbers f = picksOf (kept f)
 
--- the tree of the frame
-unfoldable pub treeIn : Frame → Subtrees
-treeIn f = frameTree (f .cell) (f .solutes) (f .waters) (startList f) (pickNumbers f)
+-- what Row and Dispersion take, and what Report takes
+abbrev pub scanInput : Frame → Input
+scanInput f = given (f .cell) (f .solutes) [] (startList f) (pickNumbers f)
+
+abbrev pub treeInput : Frame → Input
+treeInput f = given (f .cell) (f .solutes) (f .waters) (startList f) (pickNumbers f)
 
 -- ---- refusals (blank and 5, 6, 7: `frame_tests`)
 -- 5, 6, 7 for the kept copies, their picks and the finite waters
-unfoldable pub sized : Frame → Tables → List Refusal
+unfoldable pub sized : Frame → FrameTables → List Refusal
 sized f t =
     sizeRefusals (length (kept f)) (length (pickNumbers f)) (finiteWaters (f .waters))
-    (length (t .starts)) (length (t .picks)) (length (t .clusters)) (length (t .centerOrder)) (length (t .waterOrder))
+    (length (t .starts)) (length (t .picks)) (length (t .clusters)) (length (t .tree .centerOrder)) (length (t .tree .waterOrder))
 
 -- 5, 6, 7, 13
-unfoldable pub tableRefusals : Frame → Tables → List Refusal
-tableRefusals f t = sized f t ++ (roomRefusal (reportRoom (t .records) (t .boxes) (t .leaves)) (treeIn f) ∷ [])
+unfoldable pub tableRefusals : Frame → FrameTables → List Refusal
+tableRefusals f t = sized f t ++ (roomRefusal (reportRoom (t .tree) (t .leaves)) (frameTree (treeInput f)) ∷ [])
 
 -- 1, 2, 3, 4
 unfoldable pub limited : Frame → List Refusal
@@ -95,7 +86,7 @@ unfoldable pub blankHolds : Frame → Bool
 blankHolds f = isBlank (f .cell) (f .solutes) (f .waters) (length (kept f)) (finiteWaters (f .waters))
 
 -- the first that holds; a blank frame is not refused by its tables
-unfoldable pub frameRefusal : Frame → Tables → ℕ
+unfoldable pub frameRefusal : Frame → FrameTables → ℕ
 frameRefusal f t = firstRefusal (limited f ++ cond (blankHolds f) [] (tableRefusals f t))
 
 -- blank comes after 1, 2, 3, 4
@@ -115,32 +106,29 @@ refusedOr r x = unlessRefused r x (Refused r)
 
 -- what Select, Close, Dispersion and Report answer: the kept copies and the picks, the three fractions of the scanned table, the
 -- dispersion, and of the tree its nodes, greatest depth, reported leaves and dry leaves
-unfoldable pub mixedAnswer : Frame → Tables → FrameAnswer
+unfoldable pub mixedAnswer : Frame → FrameTables → FrameAnswer
 mixedAnswer f t =
-    let fs = tableFractions (scanned (f .cell) (f .solutes) (startList f) (pickNumbers f) (t .clusters)) in
-    let vs = treeIn f .nodes in
-    Mixed (length (kept f)) (length (pickNumbers f)) (fs .largest) (fs .contacted) (fs .pair) (dispersionOf (f .cell) (f .solutes) (startList f) (pickNumbers f))
+    let fs = tableFractions (scanned (scanInput f) (t .clusters)) in
+    let vs = frameTree (treeInput f) .nodes in
+    Mixed (length (kept f)) (length (pickNumbers f)) (fs .largest) (fs .contacted) (fs .pair) (dispersionOf (scanInput f))
     (length vs) (deepest vs) (reportedLeaves vs) (dryLeaves vs)
 
 -- what the whole frame answers; blank stands for zeros in all four fractions
-unfoldable pub frameAnswer : Frame → Tables → FrameAnswer
+unfoldable pub frameAnswer : Frame → FrameTables → FrameAnswer
 frameAnswer f t = cond (frameBlank f) Blank (refusedOr (frameRefusal f t) (mixedAnswer f t))
 
 -- ---- the tables afterwards
 -- Select, the scan and Report, which answered r: 0 or 13
-unfoldable pub worked : ℕ → Frame → Tables → Tables
+unfoldable pub worked : ℕ → Frame → FrameTables → FrameTables
 worked r f t =
     record {
       starts = selectStarts (f .solutes) (f .per) (f .indices) (t .starts) (t .picks);
       picks = selectPicks (f .solutes) (f .per) (f .indices) (t .starts) (t .picks);
-      clusters = scanned (f .cell) (f .solutes) (startList f) (pickNumbers f) (t .clusters);
-      centerOrder = centerOrderAfter r (treeIn f) (copiesIn (startList f)) (t .centerOrder);
-      waterOrder = waterOrderAfter r (treeIn f) (finiteWaters (f .waters)) (t .waterOrder);
-      records = recordsAfter r (treeIn f) (t .records);
-      boxes = boxesAfter r (treeIn f) (t .boxes);
-      leaves = leavesAfter r (f .cell) (f .waters) (startList f) (treeIn f .nodes) (t .leaves);
+      clusters = scanned (scanInput f) (t .clusters);
+      tree = inputAfter r (treeInput f) (t .tree);
+      leaves = leavesBy r (treeInput f) (t .leaves);
     }
 
 -- blank and every refusal but 13 change no table
-unfoldable pub tablesAfter : Frame → Tables → Tables
-tablesAfter f t = cond (frameBlank f) t (byOutcome (frameRefusal f t) (worked 0 f t) (worked 13 f t) t)
+unfoldable pub frameAfter : Frame → FrameTables → FrameTables
+frameAfter f t = cond (frameBlank f) t (byNumber (frameRefusal f t) (worked 0 f t) (worked 13 f t) t)

@@ -1,7 +1,8 @@
 // The whole frame (document 01, 'Whole frame'): the input is tested once, all lengths are known before the first write, and then the
 // unchecked cores of Select, Open, Row, Close, Dispersion and Report run. Beside the lent tables it keeps on its stack what they keep.
 ghost use mathlib.Core.Path.{_≡_};
-ghost use Rattle.mixing.specs.Frame.{given, lent, frameAnswer, tablesAfter};
+ghost use Rattle.base.specs.Entry.{old};
+ghost use Rattle.mixing.specs.Frame.{frameOf, frameTables, frameAnswer, frameAfter};
 ghost use Rattle.mixing.specs.Inner.{withReport};
 use cell::Cell;
 use cluster_table::ClusterFractions;
@@ -69,13 +70,15 @@ pub fn frame(
     boxes: &mut [f32],
     leaves: &mut [u32],
 ) -> FrameAnswer
-    ensures answer { λ r. ⌜ r ≡ frameAnswer (given cell (now (solutes .entry)) per (now (indices .entry)) (now (waters .entry))) (lent (now (starts .entry)) (now (picks .entry)) (now (clusters .entry)) (now («center_order» .entry)) (now («water_order» .entry)) (now (records .entry)) (now (boxes .entry)) (now (leaves .entry))) ⌝ }
-    ensures tables { λ r. ⌜ lent (now (starts .exit)) (now (picks .exit)) (now (clusters .exit)) (now («center_order» .exit)) (now («water_order» .exit)) (now (records .exit)) (now (boxes .exit)) (now (leaves .exit)) ≡ tablesAfter (given cell (now (solutes .entry)) per (now (indices .entry)) (now (waters .entry))) (lent (now (starts .entry)) (now (picks .entry)) (now (clusters .entry)) (now («center_order» .entry)) (now («water_order» .entry)) (now (records .entry)) (now (boxes .entry)) (now (leaves .entry))) ⌝ }
+    ensures answer { λ r. ⌜ r ≡ frameAnswer (frameOf cell (old solutes) per (old indices) (old waters)) (frameTables (old starts) (old picks) (old clusters) (old «center_order») (old «water_order») (old records) (old boxes) (old leaves)) ⌝ }
+    ensures after { λ r. ⌜ frameTables (now (starts .exit)) (now (picks .exit)) (now (clusters .exit)) (now («center_order» .exit)) (now («water_order» .exit)) (now (records .exit)) (now (boxes .exit)) (now (leaves .exit))
+        ≡ frameAfter (frameOf cell (old solutes) per (old indices) (old waters)) (frameTables (old starts) (old picks) (old clusters) (old «center_order») (old «water_order») (old records) (old boxes) (old leaves)) ⌝ }
 {
     let refusal = frame_limits::limit_refusal(cell, solutes, waters, indices);
     if refusal != 0 {
         return FrameAnswer::Refused(refusal);
     }
+    // Copies, picks and finite waters are counted before the first write: blank and 5, 6, 7 go by them.
     let n = selection::count(solutes, per, indices);
     let finite = points::count_waters(waters);
     if frame_tests::is_blank(cell, solutes, waters, n.copies, finite) {
@@ -94,12 +97,15 @@ pub fn frame(
     if size != 0 {
         return FrameAnswer::Refused(size);
     }
+    // From here on only 13 refuses, and what it leaves is written by Report.
     selection::fill(solutes, per, indices, starts, picks);
+    // The lent tables may be longer than the pick lists.
     let firsts = &starts[..n.copies + 1];
     let picked = &picks[..n.picks];
     scan::scan_all(cell, solutes, firsts, picked, clusters);
     let f = cluster_table::fractions(clusters, n.copies);
     let dispersion = dispersion::dispersion_of(cell, solutes, firsts, picked);
+    // Last: where it answers 13, the scan and Select have written already, as document 01 has it.
     let reported = report::report_of(
         cell,
         solutes,

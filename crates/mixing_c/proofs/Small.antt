@@ -8,27 +8,29 @@ use native.Mathlib.Omega.{arith}
 use lib.Dec.{eqb}
 use lib.ListN.{length, getD}
 use lib.Ieee.{Float}
-use Rattle.cell.specs.declared.Cell.{Cell}
-use Rattle.cell.specs.Refusals.{firstRefusal}
-use Rattle.cell.specs.Tables.{unlessRefused}
+use Rattle.division.specs.Split.{maxDepth}
+use Rattle.base.specs.Refusals.{firstRefusal}
+use Rattle.base.specs.Tables.{unlessRefused}
 use Rattle.selection.specs.declared.Selected.the-variants as selected
-use Rattle.selection.specs.Selection.{keptCopies, joined, selectRefusal, selectAnswer, valuesOf}
+use Rattle.selection.specs.Selection.{keptCopies, picksOf, selectRefusal, selectAnswer, selectValues}
 use Rattle.selection.proofs.SoundSelect.{select-room}
 use Rattle.bounds.specs.Bounds.{cellBox}
 use Rattle.nodes.specs.Nodes.{Node, deepest}
 use Rattle.octree.proofs.Counting.{nodes-within}
 use Rattle.tree.specs.declared.TreeAnswer.the-variants as tree
 use Rattle.points.specs.Points.{treeCenters, treeWaters}
-use Rattle.tree.specs.Tree.{frameTree, testRefusals, treeCallRefusal, treeAnswer, treeAnswered}
+use Rattle.pick_lists.specs.Input.{Input}
+use Rattle.octree.specs.Tree.{TreeTables}
+use Rattle.tree.specs.Tree.{frameTree, testRefusals, refusalIn, wholeRecords, treeRefusal, treeAnswer, treeValues}
 use Rattle.tree.proofs.TreeRefusals.{Tested, tested, call-tested}
 use Rattle.report.specs.declared.Reported.the-variants as report
 use Rattle.leaf_table.specs.LeafTable.{isReported, reportedLeaves, dryLeaves}
-use Rattle.report.specs.Report.{reportAnswer, reportAnswered}
+use Rattle.report.specs.Report.{reportRoom, reportRefusal, answerBy, reportAnswer, reportValues}
 use Rattle.leaf_table.proofs.LeafList.{reported-few}
 use Rattle.report.proofs.ReportOutcomes.{nodes-small}
 use Rattle.mixing.specs.declared.FrameAnswer.{FrameAnswer}
 use Rattle.mixing.specs.declared.FrameAnswer.the-variants.{Refused, Blank, Mixed}
-use Rattle.mixing.specs.Frame.{Frame, Tables, kept, startList, pickNumbers, treeIn, mixedAnswer, frameAnswer}
+use Rattle.mixing.specs.Frame.{Frame, FrameTables, kept, pickNumbers, treeInput, mixedAnswer, frameAnswer}
 use Rattle.mixing.proofs.Outcomes.{Passed}
 use Rattle.mixing.proofs.Tested.{room, waters-few, lists-sound}
 use Rattle.mixing.proofs.Answered.{answered}
@@ -50,19 +52,19 @@ small-unless : {A : Type 0} (values : A → List ℕ) (r : ℕ) (x y : A) → (r
 small-unless values zero x y f g = f refl
 small-unless values (suc r) x y f g = g
 
-pub select-small : (solutes : List Float) (per : ℕ) (indices starts picks : List ℕ) → Small (valuesOf (selectAnswer solutes per indices starts picks))
+pub select-small : (solutes : List Float) (per : ℕ) (indices starts picks : List ℕ) → Small (selectValues (selectAnswer solutes per indices starts picks))
 unfolding selectAnswer
 select-small solutes per indices starts picks =
     let cs = keptCopies solutes per indices in
     let r = selectRefusal solutes per indices starts picks in
-    small-unless valuesOf r (selected.Kept (length cs) (length (joined cs))) (selected.Refused r)
+    small-unless selectValues r (selected.Kept (length cs) (length (picksOf cs))) (selected.Refused r)
     (λ e.
     let room = select-room solutes per indices starts picks e in
-    small-two (length cs) (length (joined cs)) (omega (arith, room .few)) (omega (arith, room .short)))
+    small-two (length cs) (length (picksOf cs)) (omega (arith, room .few)) (omega (arith, room .short)))
     small-none
 
 -- ---- trees
-deepest-most : (vs : List Node) → ((v₀ : Node) (i : ℕ) → i < length vs → getD vs i v₀ .depth ≤ 14) → deepest vs ≤ 14
+deepest-most : (vs : List Node) → ((v₀ : Node) (i : ℕ) → i < length vs → getD vs i v₀ .depth ≤ maxDepth) → deepest vs ≤ maxDepth
 unfolding deepest
 deepest-most [] h = omega arith
 deepest-most (v ∷ vs) h = omega (arith, h v 0 (omega arith), deepest-most vs (λ v₀ i g. h v₀ (suc i) (omega arith)))
@@ -81,58 +83,55 @@ dry-few (v ∷ vs) = by-test (isReported v) (eqb (v .waters) 0) (dry-few vs)
 abbrev fourCounts : List Node → List ℕ
 fourCounts vs = length vs ∷ deepest vs ∷ reportedLeaves vs ∷ dryLeaves vs ∷ []
 
-module _ (c : Cell) (solutes waters : List Float) (starts picks : List ℕ) where
-  depth-few : deepest (frameTree c solutes waters starts picks .nodes) ≤ 14
-  unfolding frameTree
-  depth-few =
-      deepest-most (frameTree c solutes waters starts picks .nodes)
-      (λ v₀ i h. nodes-within (cellBox c) (treeCenters c solutes starts picks) (treeWaters c waters) v₀ i h .shallow)
+module _ (f : Input) where
+  abbrev vs : List Node
+  vs = frameTree f .nodes
 
-  leaves-small : length (frameTree c solutes waters starts picks .nodes) < 2 ^ 32 → Small (fourCounts (frameTree c solutes waters starts picks .nodes))
+  depth-few : deepest vs ≤ maxDepth
+  unfolding frameTree
+  depth-few = deepest-most vs (λ v₀ i h. nodes-within (cellBox (f .cell)) (treeCenters f) (treeWaters (f .cell) (f .waters)) v₀ i h .shallow)
+
+  leaves-small : length vs < 2 ^ 32 → Small (fourCounts vs)
   leaves-small few =
-      let vs = frameTree c solutes waters starts picks .nodes in
       let two = small-two (reportedLeaves vs) (dryLeaves vs) (omega (arith, few, reported-few vs)) (omega (arith, few, reported-few vs, dry-few vs)) in
       small-more (length vs) (deepest vs ∷ reportedLeaves vs ∷ dryLeaves vs ∷ []) few
       (small-more (deepest vs) (reportedLeaves vs ∷ dryLeaves vs ∷ []) (omega (arith, depth-few)) two)
 
-module _ (c : Cell) (solutes waters : List Float) (starts picks centerOrder waterOrder : List ℕ) (room : ℕ) where
   -- a tree that is not refused passed the tests
-  passed : treeCallRefusal c solutes waters starts picks centerOrder waterOrder room ≡ 0 → Tested c solutes waters starts picks centerOrder waterOrder
-  passed e = tested c solutes waters starts picks centerOrder waterOrder (none (firstRefusal (testRefusals c solutes waters starts picks centerOrder waterOrder)) refl)
-    where
-      none : (r : ℕ) → r ≡ firstRefusal (testRefusals c solutes waters starts picks centerOrder waterOrder) → firstRefusal (testRefusals c solutes waters starts picks centerOrder waterOrder) ≡ 0
-      none zero h = sym h
-      none (suc r) h = absurd (omega (arith, call-tested c solutes waters starts picks centerOrder waterOrder room (suc r) h (λ z. omega arith) .0, e))
+  module _ (t : TreeTables) (room : ℕ) (e : refusalIn room f t ≡ 0) where
+    passed : Tested f (t .centerOrder) (t .waterOrder)
+    passed = tested f (t .centerOrder) (t .waterOrder) (none (firstRefusal (testRefusals f (t .centerOrder) (t .waterOrder))) refl)
+      where
+        none : (r : ℕ) → r ≡ firstRefusal (testRefusals f (t .centerOrder) (t .waterOrder)) → firstRefusal (testRefusals f (t .centerOrder) (t .waterOrder)) ≡ 0
+        none zero h = sym h
+        none (suc r) h = absurd (omega (arith, call-tested room f t (suc r) h (λ z. omega arith) .0, e))
 
-  nodes-few : treeCallRefusal c solutes waters starts picks centerOrder waterOrder room ≡ 0 → length (frameTree c solutes waters starts picks .nodes) < 2 ^ 32
-  nodes-few e = nodes-small c solutes waters starts picks (passed e .sound) (passed e .waters-few)
+    nodes-few : length vs < 2 ^ 32
+    nodes-few = nodes-small f (passed .sound) (passed .waters-few)
 
-  pub tree-small : Small (treeAnswered (treeAnswer (treeCallRefusal c solutes waters starts picks centerOrder waterOrder room) (frameTree c solutes waters starts picks)))
-  tree-small =
-      let r = treeCallRefusal c solutes waters starts picks centerOrder waterOrder room in
-      let vs = frameTree c solutes waters starts picks .nodes in
-      small-unless treeAnswered r (tree.Nodes (length vs) (deepest vs)) (tree.Refused r)
-      (λ z. small-two (length vs) (deepest vs) (nodes-few z) (omega (arith, depth-few c solutes waters starts picks))) small-none
+  module _ (t : TreeTables) where
+    pub tree-small : Small (treeValues (treeAnswer f t))
+    unfolding treeAnswer treeRefusal
+    tree-small =
+        small-unless treeValues (treeRefusal f t) (tree.Nodes (length vs) (deepest vs)) (tree.Refused (treeRefusal f t))
+        (λ z. small-two (length vs) (deepest vs) (nodes-few t (wholeRecords t) z) (omega (arith, depth-few))) small-none
 
-  pub report-small : Small (reportAnswered (reportAnswer (treeCallRefusal c solutes waters starts picks centerOrder waterOrder room) (frameTree c solutes waters starts picks .nodes)))
-  unfolding reportAnswer
-  report-small =
-      let r = treeCallRefusal c solutes waters starts picks centerOrder waterOrder room in
-      let vs = frameTree c solutes waters starts picks .nodes in
-      small-unless reportAnswered r (report.Leaves (length vs) (deepest vs) (reportedLeaves vs) (dryLeaves vs)) (report.Refused r)
-      (λ z. leaves-small c solutes waters starts picks (nodes-few z)) small-none
+    pub report-small : (leaves : List ℕ) → Small (reportValues (reportAnswer f t leaves))
+    unfolding reportAnswer answerBy reportRefusal
+    report-small leaves =
+        small-unless reportValues (reportRefusal f t leaves) (report.Leaves (length vs) (deepest vs) (reportedLeaves vs) (dryLeaves vs)) (report.Refused (reportRefusal f t leaves))
+        (λ z. leaves-small (nodes-few t (reportRoom t leaves) z)) small-none
 
 -- ---- the whole frame
-module _ (f : Frame) (t : Tables) where
+module _ (f : Frame) (t : FrameTables) where
   mixed-small : Passed f t → Small (frameCounts (mixedAnswer f t))
-  unfolding mixedAnswer treeIn
+  unfolding mixedAnswer
   mixed-small p =
       let fits = room f t p in
-      let vs = treeIn f .nodes in
-      small-more (length (kept f)) (length (pickNumbers f) ∷ fourCounts vs) (omega (arith, fits .few))
-      (small-more (length (pickNumbers f)) (fourCounts vs) (omega (arith, fits .light))
-      (leaves-small (f .cell) (f .solutes) (f .waters) (startList f) (pickNumbers f)
-      (nodes-small (f .cell) (f .solutes) (f .waters) (startList f) (pickNumbers f) (lists-sound f t p) (waters-few f (p .within)))))
+      let four = fourCounts (frameTree (treeInput f) .nodes) in
+      small-more (length (kept f)) (length (pickNumbers f) ∷ four) (omega (arith, fits .few))
+      (small-more (length (pickNumbers f)) four (omega (arith, fits .light))
+      (leaves-small (treeInput f) (nodes-small (treeInput f) (lists-sound f t p) (waters-few f (p .within)))))
 
   -- a refusal and blank have no counts
   pub frame-small : Small (frameCounts (frameAnswer f t))

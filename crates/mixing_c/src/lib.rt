@@ -1,15 +1,17 @@
 // The C interface: every call of document 01 over numbers and slices, as include/baithrum.h declares it. The result is the refusal's
 // number, 0 for success. The values of an answer go to the lent table `answers`, as many of them as it holds, floats as bits.
 ghost use mathlib.Core.Path.{_≡_};
-ghost use Rattle.pick_lists.specs.Sound.{copiesIn};
-ghost use Rattle.selection.specs.Selection.{selectRefusal, selectAnswer, valuesOf, selectStarts, selectPicks};
-ghost use Rattle.clusters.specs.Answers.{openRefusal, openLeaves, rowRefusal, rowLeaves, closeRefusal, closeAnswer, fractionsOf};
-ghost use Rattle.centers.specs.Centers.{centersRefusal, centersLeaves};
-ghost use Rattle.dispersion.specs.Dispersion.{dispersionRefusal, dispersionAnswer, dispersedValues};
-ghost use Rattle.points.specs.Points.{finiteWaters};
-ghost use Rattle.tree.specs.Tree.{frameTree, wholeRecords, treeCallRefusal, treeAnswer, treeAnswered, centerOrderAfter, waterOrderAfter, recordsAfter, boxesAfter};
-ghost use Rattle.report.specs.Report.{reportRefusal, reportAnswer, reportAnswered, leavesAfter};
-ghost use Rattle.mixing.specs.Frame.{given, lent, frameRefusal, frameAnswer, tablesAfter};
+ghost use mathlib.Core.List.{[]};
+ghost use Rattle.base.specs.Entry.{old};
+ghost use Rattle.pick_lists.specs.Input.{given};
+ghost use Rattle.selection.specs.Selection.{selectRefusal, selectAnswer, selectValues, selectStarts, selectPicks};
+ghost use Rattle.clusters.specs.Answers.{openRefusal, openAfter, rowRefusal, rowAfter, closeRefusal, closeAnswer, closeValues};
+ghost use Rattle.centers.specs.Centers.{centersRefusal, centersAfter};
+ghost use Rattle.dispersion.specs.Dispersion.{dispersionRefusal, dispersionAnswer, dispersionValues};
+ghost use Rattle.octree.specs.Tree.{treeTables};
+ghost use Rattle.tree.specs.Tree.{treeRefusal, treeAnswer, treeValues, treeAfter};
+ghost use Rattle.report.specs.Report.{reportRefusal, reportAnswer, reportValues, reportAfter, leavesAfter};
+ghost use Rattle.mixing.specs.Frame.{frameOf, frameTables, frameRefusal, frameAnswer, frameAfter};
 ghost use Rattle.answers.specs.Interface.{cellOf, bitsOf, answersAfter, frameWords};
 
 // Select answers the kept copies and the picks.
@@ -22,10 +24,10 @@ pub extern "C" fn baithrum_select(
     picks: &mut [u32],
     answers: &mut [u32],
 ) -> u32
-    ensures number { λ r. ⌜ r ≡ selectRefusal (now (solutes .entry)) per (now (indices .entry)) (now (starts .entry)) (now (picks .entry)) ⌝ }
-    ensures starts_after { λ r. ⌜ now (starts .exit) ≡ selectStarts (now (solutes .entry)) per (now (indices .entry)) (now (starts .entry)) (now (picks .entry)) ⌝ }
-    ensures picks_after { λ r. ⌜ now (picks .exit) ≡ selectPicks (now (solutes .entry)) per (now (indices .entry)) (now (starts .entry)) (now (picks .entry)) ⌝ }
-    ensures answers_after { λ r. ⌜ now (answers .exit) ≡ answersAfter (valuesOf (selectAnswer (now (solutes .entry)) per (now (indices .entry)) (now (starts .entry)) (now (picks .entry)))) (now (answers .entry)) ⌝ }
+    ensures number { λ r. ⌜ r ≡ selectRefusal (old solutes) per (old indices) (old starts) (old picks) ⌝ }
+    ensures starts_after { λ r. ⌜ now (starts .exit) ≡ selectStarts (old solutes) per (old indices) (old starts) (old picks) ⌝ }
+    ensures picks_after { λ r. ⌜ now (picks .exit) ≡ selectPicks (old solutes) per (old indices) (old starts) (old picks) ⌝ }
+    ensures answers_after { λ r. ⌜ now (answers .exit) ≡ answersAfter (selectValues (selectAnswer (old solutes) per (old indices) (old starts) (old picks))) (old answers) ⌝ }
 {
     answers::selected(
         selection::select(solutes, per, indices, starts, picks),
@@ -36,8 +38,8 @@ pub extern "C" fn baithrum_select(
 // Open has no answer but its number.
 #[no_mangle]
 pub extern "C" fn baithrum_open(table: &mut [u32], n: usize) -> u32
-    ensures number { λ r. ⌜ r ≡ openRefusal n (now (table .entry)) ⌝ }
-    ensures after { λ r. ⌜ now (table .exit) ≡ openLeaves n (now (table .entry)) ⌝ }
+    ensures number { λ r. ⌜ r ≡ openRefusal n (old table) ⌝ }
+    ensures after { λ r. ⌜ now (table .exit) ≡ openAfter n (old table) ⌝ }
 {
     answers::number(clusters::open(table, n))
 }
@@ -57,8 +59,8 @@ pub extern "C" fn baithrum_row(
     table: &mut [u32],
     i: usize,
 ) -> u32
-    ensures number { λ r. ⌜ r ≡ rowRefusal (cellOf lx ly lz hx hy hz) (now (solutes .entry)) (now (starts .entry)) (now (picks .entry)) (now (table .entry)) i ⌝ }
-    ensures after { λ r. ⌜ now (table .exit) ≡ rowLeaves (cellOf lx ly lz hx hy hz) (now (solutes .entry)) (now (starts .entry)) (now (picks .entry)) (now (table .entry)) i ⌝ }
+    ensures number { λ r. ⌜ r ≡ rowRefusal (given (cellOf lx ly lz hx hy hz) (old solutes) [] (old starts) (old picks)) (old table) i ⌝ }
+    ensures after { λ r. ⌜ now (table .exit) ≡ rowAfter (given (cellOf lx ly lz hx hy hz) (old solutes) [] (old starts) (old picks)) (old table) i ⌝ }
 {
     answers::number(clusters::row(
         answers::cell(lx, ly, lz, hx, hy, hz),
@@ -73,8 +75,8 @@ pub extern "C" fn baithrum_row(
 // Close answers the largest, contacted and pair fractions.
 #[no_mangle]
 pub extern "C" fn baithrum_close(table: &[u32], answers: &mut [u32]) -> u32
-    ensures number { λ r. ⌜ r ≡ closeRefusal (now (table .entry)) ⌝ }
-    ensures answers_after { λ r. ⌜ now (answers .exit) ≡ answersAfter (bitsOf (fractionsOf (closeAnswer (now (table .entry))))) (now (answers .entry)) ⌝ }
+    ensures number { λ r. ⌜ r ≡ closeRefusal (old table) ⌝ }
+    ensures answers_after { λ r. ⌜ now (answers .exit) ≡ answersAfter (bitsOf (closeValues (closeAnswer (old table)))) (old answers) ⌝ }
 {
     answers::closing(clusters::close(table), answers)
 }
@@ -93,8 +95,8 @@ pub extern "C" fn baithrum_centers(
     picks: &[u32],
     centers: &mut [f32],
 ) -> u32
-    ensures number { λ r. ⌜ r ≡ centersRefusal (cellOf lx ly lz hx hy hz) (now (solutes .entry)) (now (starts .entry)) (now (picks .entry)) (now (centers .entry)) ⌝ }
-    ensures after { λ r. ⌜ now (centers .exit) ≡ centersLeaves (cellOf lx ly lz hx hy hz) (now (solutes .entry)) (now (starts .entry)) (now (picks .entry)) (now (centers .entry)) ⌝ }
+    ensures number { λ r. ⌜ r ≡ centersRefusal (given (cellOf lx ly lz hx hy hz) (old solutes) [] (old starts) (old picks)) (old centers) ⌝ }
+    ensures after { λ r. ⌜ now (centers .exit) ≡ centersAfter (given (cellOf lx ly lz hx hy hz) (old solutes) [] (old starts) (old picks)) (old centers) ⌝ }
 {
     answers::number(centers::centers(
         answers::cell(lx, ly, lz, hx, hy, hz),
@@ -119,8 +121,8 @@ pub extern "C" fn baithrum_dispersion(
     picks: &[u32],
     answers: &mut [u32],
 ) -> u32
-    ensures number { λ r. ⌜ r ≡ dispersionRefusal (cellOf lx ly lz hx hy hz) (now (solutes .entry)) (now (starts .entry)) (now (picks .entry)) ⌝ }
-    ensures answers_after { λ r. ⌜ now (answers .exit) ≡ answersAfter (bitsOf (dispersedValues (dispersionAnswer (cellOf lx ly lz hx hy hz) (now (solutes .entry)) (now (starts .entry)) (now (picks .entry))))) (now (answers .entry)) ⌝ }
+    ensures number { λ r. ⌜ r ≡ dispersionRefusal (given (cellOf lx ly lz hx hy hz) (old solutes) [] (old starts) (old picks)) ⌝ }
+    ensures answers_after { λ r. ⌜ now (answers .exit) ≡ answersAfter (bitsOf (dispersionValues (dispersionAnswer (given (cellOf lx ly lz hx hy hz) (old solutes) [] (old starts) (old picks))))) (old answers) ⌝ }
 {
     answers::dispersed(
         dispersion::dispersion(
@@ -152,12 +154,10 @@ pub extern "C" fn baithrum_tree(
     boxes: &mut [f32],
     answers: &mut [u32],
 ) -> u32
-    ensures number { λ r. ⌜ r ≡ treeCallRefusal (cellOf lx ly lz hx hy hz) (now (solutes .entry)) (now (waters .entry)) (now (starts .entry)) (now (picks .entry)) (now («center_order» .entry)) (now («water_order» .entry)) (wholeRecords (now (records .entry)) (now (boxes .entry))) ⌝ }
-    ensures order { λ r. ⌜ now («center_order» .exit) ≡ centerOrderAfter r (frameTree (cellOf lx ly lz hx hy hz) (now (solutes .entry)) (now (waters .entry)) (now (starts .entry)) (now (picks .entry))) (copiesIn (now (starts .entry))) (now («center_order» .entry)) ⌝ }
-    ensures water { λ r. ⌜ now («water_order» .exit) ≡ waterOrderAfter r (frameTree (cellOf lx ly lz hx hy hz) (now (solutes .entry)) (now (waters .entry)) (now (starts .entry)) (now (picks .entry))) (finiteWaters (now (waters .entry))) (now («water_order» .entry)) ⌝ }
-    ensures table { λ r. ⌜ now (records .exit) ≡ recordsAfter r (frameTree (cellOf lx ly lz hx hy hz) (now (solutes .entry)) (now (waters .entry)) (now (starts .entry)) (now (picks .entry))) (now (records .entry)) ⌝ }
-    ensures corners { λ r. ⌜ now (boxes .exit) ≡ boxesAfter r (frameTree (cellOf lx ly lz hx hy hz) (now (solutes .entry)) (now (waters .entry)) (now (starts .entry)) (now (picks .entry))) (now (boxes .entry)) ⌝ }
-    ensures answers_after { λ r. ⌜ now (answers .exit) ≡ answersAfter (treeAnswered (treeAnswer r (frameTree (cellOf lx ly lz hx hy hz) (now (solutes .entry)) (now (waters .entry)) (now (starts .entry)) (now (picks .entry))))) (now (answers .entry)) ⌝ }
+    ensures number { λ r. ⌜ r ≡ treeRefusal (given (cellOf lx ly lz hx hy hz) (old solutes) (old waters) (old starts) (old picks)) (treeTables (old «center_order») (old «water_order») (old records) (old boxes)) ⌝ }
+    ensures after { λ r. ⌜ treeTables (now («center_order» .exit)) (now («water_order» .exit)) (now (records .exit)) (now (boxes .exit))
+        ≡ treeAfter (given (cellOf lx ly lz hx hy hz) (old solutes) (old waters) (old starts) (old picks)) (treeTables (old «center_order») (old «water_order») (old records) (old boxes)) ⌝ }
+    ensures answers_after { λ r. ⌜ now (answers .exit) ≡ answersAfter (treeValues (treeAnswer (given (cellOf lx ly lz hx hy hz) (old solutes) (old waters) (old starts) (old picks)) (treeTables (old «center_order») (old «water_order») (old records) (old boxes)))) (old answers) ⌝ }
 {
     answers::tree(
         tree::tree(
@@ -195,13 +195,11 @@ pub extern "C" fn baithrum_report(
     leaves: &mut [u32],
     answers: &mut [u32],
 ) -> u32
-    ensures number { λ r. ⌜ r ≡ reportRefusal (cellOf lx ly lz hx hy hz) (now (solutes .entry)) (now (waters .entry)) (now (starts .entry)) (now (picks .entry)) (now («center_order» .entry)) (now («water_order» .entry)) (now (records .entry)) (now (boxes .entry)) (now (leaves .entry)) ⌝ }
-    ensures order { λ r. ⌜ now («center_order» .exit) ≡ centerOrderAfter r (frameTree (cellOf lx ly lz hx hy hz) (now (solutes .entry)) (now (waters .entry)) (now (starts .entry)) (now (picks .entry))) (copiesIn (now (starts .entry))) (now («center_order» .entry)) ⌝ }
-    ensures water { λ r. ⌜ now («water_order» .exit) ≡ waterOrderAfter r (frameTree (cellOf lx ly lz hx hy hz) (now (solutes .entry)) (now (waters .entry)) (now (starts .entry)) (now (picks .entry))) (finiteWaters (now (waters .entry))) (now («water_order» .entry)) ⌝ }
-    ensures table { λ r. ⌜ now (records .exit) ≡ recordsAfter r (frameTree (cellOf lx ly lz hx hy hz) (now (solutes .entry)) (now (waters .entry)) (now (starts .entry)) (now (picks .entry))) (now (records .entry)) ⌝ }
-    ensures corners { λ r. ⌜ now (boxes .exit) ≡ boxesAfter r (frameTree (cellOf lx ly lz hx hy hz) (now (solutes .entry)) (now (waters .entry)) (now (starts .entry)) (now (picks .entry))) (now (boxes .entry)) ⌝ }
-    ensures reported { λ r. ⌜ now (leaves .exit) ≡ leavesAfter r (cellOf lx ly lz hx hy hz) (now (waters .entry)) (now (starts .entry)) ((frameTree (cellOf lx ly lz hx hy hz) (now (solutes .entry)) (now (waters .entry)) (now (starts .entry)) (now (picks .entry))) .nodes) (now (leaves .entry)) ⌝ }
-    ensures answers_after { λ r. ⌜ now (answers .exit) ≡ answersAfter (reportAnswered (reportAnswer r ((frameTree (cellOf lx ly lz hx hy hz) (now (solutes .entry)) (now (waters .entry)) (now (starts .entry)) (now (picks .entry))) .nodes))) (now (answers .entry)) ⌝ }
+    ensures number { λ r. ⌜ r ≡ reportRefusal (given (cellOf lx ly lz hx hy hz) (old solutes) (old waters) (old starts) (old picks)) (treeTables (old «center_order») (old «water_order») (old records) (old boxes)) (old leaves) ⌝ }
+    ensures after { λ r. ⌜ treeTables (now («center_order» .exit)) (now («water_order» .exit)) (now (records .exit)) (now (boxes .exit))
+        ≡ reportAfter (given (cellOf lx ly lz hx hy hz) (old solutes) (old waters) (old starts) (old picks)) (treeTables (old «center_order») (old «water_order») (old records) (old boxes)) (old leaves) ⌝ }
+    ensures reported { λ r. ⌜ now (leaves .exit) ≡ leavesAfter (given (cellOf lx ly lz hx hy hz) (old solutes) (old waters) (old starts) (old picks)) (treeTables (old «center_order») (old «water_order») (old records) (old boxes)) (old leaves) ⌝ }
+    ensures answers_after { λ r. ⌜ now (answers .exit) ≡ answersAfter (reportValues (reportAnswer (given (cellOf lx ly lz hx hy hz) (old solutes) (old waters) (old starts) (old picks)) (treeTables (old «center_order») (old «water_order») (old records) (old boxes)) (old leaves))) (old answers) ⌝ }
 {
     answers::report(
         report::report(
@@ -244,9 +242,10 @@ pub extern "C" fn baithrum_frame(
     leaves: &mut [u32],
     answers: &mut [u32],
 ) -> u32
-    ensures number { λ r. ⌜ r ≡ frameRefusal (given (cellOf lx ly lz hx hy hz) (now (solutes .entry)) per (now (indices .entry)) (now (waters .entry))) (lent (now (starts .entry)) (now (picks .entry)) (now (clusters .entry)) (now («center_order» .entry)) (now («water_order» .entry)) (now (records .entry)) (now (boxes .entry)) (now (leaves .entry))) ⌝ }
-    ensures tables { λ r. ⌜ lent (now (starts .exit)) (now (picks .exit)) (now (clusters .exit)) (now («center_order» .exit)) (now («water_order» .exit)) (now (records .exit)) (now (boxes .exit)) (now (leaves .exit)) ≡ tablesAfter (given (cellOf lx ly lz hx hy hz) (now (solutes .entry)) per (now (indices .entry)) (now (waters .entry))) (lent (now (starts .entry)) (now (picks .entry)) (now (clusters .entry)) (now («center_order» .entry)) (now («water_order» .entry)) (now (records .entry)) (now (boxes .entry)) (now (leaves .entry))) ⌝ }
-    ensures answers_after { λ r. ⌜ now (answers .exit) ≡ answersAfter (frameWords (frameAnswer (given (cellOf lx ly lz hx hy hz) (now (solutes .entry)) per (now (indices .entry)) (now (waters .entry))) (lent (now (starts .entry)) (now (picks .entry)) (now (clusters .entry)) (now («center_order» .entry)) (now («water_order» .entry)) (now (records .entry)) (now (boxes .entry)) (now (leaves .entry))))) (now (answers .entry)) ⌝ }
+    ensures number { λ r. ⌜ r ≡ frameRefusal (frameOf (cellOf lx ly lz hx hy hz) (old solutes) per (old indices) (old waters)) (frameTables (old starts) (old picks) (old clusters) (old «center_order») (old «water_order») (old records) (old boxes) (old leaves)) ⌝ }
+    ensures after { λ r. ⌜ frameTables (now (starts .exit)) (now (picks .exit)) (now (clusters .exit)) (now («center_order» .exit)) (now («water_order» .exit)) (now (records .exit)) (now (boxes .exit)) (now (leaves .exit))
+        ≡ frameAfter (frameOf (cellOf lx ly lz hx hy hz) (old solutes) per (old indices) (old waters)) (frameTables (old starts) (old picks) (old clusters) (old «center_order») (old «water_order») (old records) (old boxes) (old leaves)) ⌝ }
+    ensures answers_after { λ r. ⌜ now (answers .exit) ≡ answersAfter (frameWords (frameAnswer (frameOf (cellOf lx ly lz hx hy hz) (old solutes) per (old indices) (old waters)) (frameTables (old starts) (old picks) (old clusters) (old «center_order») (old «water_order») (old records) (old boxes) (old leaves)))) (old answers) ⌝ }
 {
     answers::frame(
         mixing::frame(

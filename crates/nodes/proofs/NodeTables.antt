@@ -52,3 +52,8 @@ box-coordinate (n ∷ ns) n₀ x zero j h k = ap (λ (m : ℕ). getD (cornersOf 
 box-coordinate (n ∷ ns) n₀ x (suc i) j h k =
     let e : suc i * 6 + j ≡ 6 + (i * 6 + j) = omega arith in
     ap (λ (m : ℕ). getD (cornersOf (n .box) ++ boxesOf ns) m x) e ∙ getD-append-add (cornersOf (n .box)) (boxesOf ns) (i * 6 + j) x ∙ box-coordinate ns n₀ x i j (omega arith) k
+
+-- seven words and a 0, each as it was given
+pub eight : {a b c d e f g a′ b′ c′ d′ e′ f′ g′ : ℕ} → a ≡ a′ → b ≡ b′ → c ≡ c′ → d ≡ d′ → e ≡ e′ → f ≡ f′ → g ≡ g′
+    → _≡_ {A = List ℕ} (a ∷ b ∷ c ∷ d ∷ e ∷ f ∷ g ∷ 0 ∷ []) (a′ ∷ b′ ∷ c′ ∷ d′ ∷ e′ ∷ f′ ∷ g′ ∷ 0 ∷ [])
+eight p q r s t u v = cc

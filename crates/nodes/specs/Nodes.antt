@@ -1,11 +1,9 @@
 -- Document 01, 'Octree': a node, its record and its box; the node tables of a list of nodes, and the order lists as they start.
 -- Definitions only. Assumes nothing.
 use mathlib.Core.List.{List, [], _∷_, _++_}
-use Prim.Native.Nat.{ℕ, zero, suc, _+_, _*_, _≤_, _<_, max}
+use Prim.Native.Nat.{ℕ, _+_, max}
 use lib.Ieee.{Float}
-use Rattle.frame_limits.specs.Limits.{maxAtoms}
 use Rattle.bounds.specs.declared.OctreeBounds.{OctreeBounds}
-use Rattle.division.specs.Split.{maxDepth}
 
 pub record Node : Type 0 where
   pub depth : ℕ
@@ -39,22 +37,3 @@ recordsOf (n ∷ ns) = recordOf n ++ recordsOf ns
 unfoldable pub boxesOf : List Node → List Float
 boxesOf [] = []
 boxesOf (n ∷ ns) = cornersOf (n .box) ++ boxesOf ns
-
--- ---- an order list
--- 0, 1, 2, .. , n - 1
-unfoldable pub firstNumbers : ℕ → List ℕ
-firstNumbers zero = []
-firstNumbers (suc n) = firstNumbers n ++ (n ∷ [])
-
--- ---- one node
--- what `put_node` asks: the tables' lengths and the words of the record
-pub record NodeFits (recs boxs at depth fc nc fw nw kids after : ℕ) : Type 0 where
-  pub fits-r : at * 8 + 8 ≤ recs
-  pub fits-b : at * 6 + 6 ≤ boxs
-  pub small-d : depth ≤ maxDepth
-  pub small-fc : fc ≤ maxAtoms
-  pub small-nc : nc ≤ maxAtoms
-  pub small-fw : fw ≤ maxAtoms
-  pub small-nw : nw ≤ maxAtoms
-  pub small-k : kids ≤ 8
-  pub small-a : after < 4294967296

@@ -2,20 +2,14 @@
 use bounds::OctreeBounds;
 ghost use mathlib.Core.Path.{_≡_};
 ghost use mathlib.Core.List.{[], _∷_};
-ghost use Prim.Native.Nat.{_≤_, _<_, _*_, _^_};
+ghost use Prim.Native.Nat.{_≤_, _<_, _*_};
 ghost use lib.ListN.{length, replicate};
-ghost use lib.Ieee.{binary32, ofBits};
-ghost use Rattle.frame_limits.specs.Limits.{maxAtoms};
-ghost use Rattle.cell.specs.Tables.{placed};
-ghost use Rattle.nodes.specs.Nodes.{cornersOf, firstNumbers, NodeFits};
-
-// A number as a word.
-pub fn word(x: usize) -> u32
-    requires { ⌜ x < 2 ^ 32 ⌝ }
-    ensures { λ r. ⌜ r ≡ x ⌝ }
-{
-    x as u32
-}
+ghost use Rattle.base.specs.Entry.{old};
+ghost use Rattle.floats.specs.Constants.{zero32};
+ghost use Rattle.base.specs.Limits.{maxAtoms};
+ghost use Rattle.base.specs.Tables.{placed, firstNumbers};
+ghost use Rattle.nodes.specs.Nodes.{cornersOf};
+ghost use Rattle.nodes.specs.Inner.{NodeFits};
 
 // Writes seven words and a 0: the record of a node, or of a leaf.
 pub fn put_record(dst: &mut [u32], a: u32, b: u32, c: u32, d: u32, e: u32, f: u32, g: u32)
@@ -59,37 +53,38 @@ pub fn put_node(
     b: OctreeBounds,
 )
     requires { ⌜ NodeFits (length (now records)) (length (now boxes)) at depth fc nc fw nw children after ⌝ }
-    ensures { λ _. ⌜ now (records .exit) ≡ placed (at * 8) (depth ∷ fc ∷ nc ∷ fw ∷ nw ∷ children ∷ after ∷ 0 ∷ []) (now (records .entry)) ⌝ }
-    ensures { λ _. ⌜ now (boxes .exit) ≡ placed (at * 6) (cornersOf b) (now (boxes .entry)) ⌝ }
+    ensures { λ _. ⌜ now (records .exit) ≡ placed (at * 8) (depth ∷ fc ∷ nc ∷ fw ∷ nw ∷ children ∷ after ∷ 0 ∷ []) (old records) ⌝ }
+    ensures { λ _. ⌜ now (boxes .exit) ≡ placed (at * 6) (cornersOf b) (old boxes) ⌝ }
 {
     put_record(
         &mut records[at * 8..at * 8 + 8],
-        word(depth),
-        word(fc),
-        word(nc),
-        word(fw),
-        word(nw),
-        word(children),
-        word(after),
+        base::word(depth),
+        base::word(fc),
+        base::word(nc),
+        base::word(fw),
+        base::word(nw),
+        base::word(children),
+        base::word(after),
     );
+    // Center and extent are worked out again by who reads the corners.
     put_box(&mut boxes[at * 6..at * 6 + 6], b);
 }
 
 // Writes 0, 1, 2, ..
 pub fn count_up(s: &mut [u32])
     requires { ⌜ length (now s) ≤ maxAtoms ⌝ }
-    ensures { λ _. ⌜ now (s .exit) ≡ firstNumbers (length (now (s .entry))) ⌝ }
+    ensures { λ _. ⌜ now (s .exit) ≡ firstNumbers (length (old s)) ⌝ }
 {
     let mut i = 0;
     while i < s.len() {
-        s[i] = word(i);
+        s[i] = base::word(i);
         i += 1;
     }
 }
 
 // Writes 0 to every entry.
 pub fn clear_words(s: &mut [u32])
-    ensures { λ _. ⌜ now (s .exit) ≡ replicate (length (now (s .entry))) 0 ⌝ }
+    ensures { λ _. ⌜ now (s .exit) ≡ replicate (length (old s)) 0 ⌝ }
 {
     let mut i = 0;
     while i < s.len() {
@@ -99,7 +94,7 @@ pub fn clear_words(s: &mut [u32])
 }
 
 fn clear_floats(s: &mut [f32])
-    ensures { λ _. ⌜ now (s .exit) ≡ replicate (length (now (s .entry))) (ofBits binary32 0) ⌝ }
+    ensures { λ _. ⌜ now (s .exit) ≡ replicate (length (old s)) zero32 ⌝ }
 {
     let mut i = 0;
     while i < s.len() {
@@ -111,10 +106,10 @@ fn clear_floats(s: &mut [f32])
 // The order lists as they start, and node tables of zeros.
 pub fn reset(corder: &mut [u32], worder: &mut [u32], records: &mut [u32], boxes: &mut [f32])
     requires { ⌜ (length (now corder) ≤ maxAtoms) × (length (now worder) ≤ maxAtoms) ⌝ }
-    ensures { λ _. ⌜ now (corder .exit) ≡ firstNumbers (length (now (corder .entry))) ⌝ }
-    ensures { λ _. ⌜ now (worder .exit) ≡ firstNumbers (length (now (worder .entry))) ⌝ }
-    ensures { λ _. ⌜ now (records .exit) ≡ replicate (length (now (records .entry))) 0 ⌝ }
-    ensures { λ _. ⌜ now (boxes .exit) ≡ replicate (length (now (boxes .entry))) (ofBits binary32 0) ⌝ }
+    ensures { λ _. ⌜ now (corder .exit) ≡ firstNumbers (length (old corder)) ⌝ }
+    ensures { λ _. ⌜ now (worder .exit) ≡ firstNumbers (length (old worder)) ⌝ }
+    ensures { λ _. ⌜ now (records .exit) ≡ replicate (length (old records)) 0 ⌝ }
+    ensures { λ _. ⌜ now (boxes .exit) ≡ replicate (length (old boxes)) zero32 ⌝ }
 {
     count_up(corder);
     count_up(worder);

@@ -3,4 +3,5 @@
 // from float to float, for the layers above.
 pub mod class;
 pub mod convert;
+pub mod order;
 pub mod whole;

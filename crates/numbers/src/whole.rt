@@ -6,7 +6,8 @@ use crate::class::to_bits32;
 ghost use mathlib.Core.Path.{_≡_};
 ghost use mathlib.Core.Bool.{cond, true, false};
 ghost use lib.Ieee.{binary32, lt, ofBits, toBits};
-ghost use Rattle.floats.specs.Whole.{floorOf, roundOf, nearZero};
+ghost use Rattle.floats.specs.Whole.{floorOf, roundOf};
+ghost use Rattle.floats.specs.Inner.{nearZero};
 
 fn floor_any32(x: f32) -> f32
     ensures { λ r. ⌜ r ≡ floorOf binary32 x ⌝ }

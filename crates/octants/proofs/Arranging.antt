@@ -12,17 +12,14 @@ use lib.ListN.{length, take, drop, getD, length-append, take-append-drop, drop-o
 use lib.Seq.{drop-drop}
 use lib.Ieee.{Float, nan, lt}
 use borrow.Author.Tests.{lt-ltb, le-ltb, eq-eqb, ne-eqb}
+use Rattle.base.proofs.Tests.{bit-le}
 use Rattle.cell.specs.Cell.{pointAt}
 use Rattle.cell.specs.declared.Vec3.{Vec3}
 use Rattle.bounds.specs.Bounds.{octantAt}
-use Rattle.octants.specs.Octants.{select, octantPoints}
+use Rattle.octants.specs.Octants.{passing, octantPoints}
 use Rattle.octants.specs.Inner.{sumBefore, listsFrom, byOctant}
 
 -- ---- octants
-bit-small : (t : Bool) → cond t 1 0 ≤ 1
-bit-small true = omega arith
-bit-small false = omega arith
-
 cond-small : (t : Bool) (a : ℕ) → a < 8 → cond t a 0 < 8
 cond-small true a h = h
 cond-small false a h = omega arith
@@ -31,7 +28,7 @@ pub octant-small : (points : List Float) (c : Vec3) (i : ℕ) → octantAt point
 unfolding octantAt pointAt
 octant-small points c i =
     cond-small (ltb (i * 3 + 2) (length points)) _
-    (omega (arith, bit-small (lt (c .x) (getD points (i * 3) nan)), bit-small (lt (c .y) (getD points (i * 3 + 1) nan)), bit-small (lt (c .z) (getD points (i * 3 + 2) nan))))
+    (omega (arith, bit-le (lt (c .x) (getD points (i * 3) nan)), bit-le (lt (c .y) (getD points (i * 3 + 1) nan)), bit-le (lt (c .z) (getD points (i * 3 + 2) nan))))
 
 -- ---- sums
 pub three-ways : (o k : ℕ) → (o < k) ⊎ ((o ≡ k) ⊎ (k < o))
@@ -121,7 +118,7 @@ cons-length true v x = omega arith
 cons-length false v x = omega arith
 
 pub octants-sum : (points : List Float) (c : Vec3) (l : List ℕ) → sumBefore (λ o. length (octantPoints points c o l)) 8 ≡ length l
-unfolding select sumBefore
+unfolding passing sumBefore
 octants-sum points c [] = refl
 octants-sum points c (v ∷ l) =
     let k = octantAt points c v in

@@ -6,23 +6,23 @@ use Prim.Native.Nat.{ℕ, _+_, _<_}
 use native.Mathlib.Numerals.{add-one}
 use lib.ListN.{length, take, getD, set}
 use lib.Seq.{take-suc, take-suc-set}
-use Rattle.octants.specs.Octants.{select}
+use Rattle.octants.specs.Octants.{passing}
 
 cond-append : (t : Bool) (v : ℕ) (x y : List ℕ) → cond t (v ∷ (x ++ y)) (x ++ y) ≡ cond t (v ∷ x) x ++ y
 cond-append true v x y = refl
 cond-append false v x y = refl
 
-pub select-append : (p : ℕ → Bool) (a b : List ℕ) → select p (a ++ b) ≡ select p a ++ select p b
-unfolding select
+pub select-append : (p : ℕ → Bool) (a b : List ℕ) → passing p (a ++ b) ≡ passing p a ++ passing p b
+unfolding passing
 select-append p [] b = refl
-select-append p (v ∷ vs) b = rw (select-append p vs b) (cond-append (p v) v (select p vs) (select p b))
+select-append p (v ∷ vs) b = rw (select-append p vs b) (cond-append (p v) v (passing p vs) (passing p b))
 
-pub select-yes : (p : ℕ → Bool) (l : List ℕ) (v : ℕ) → p v ≡ true → select p (l ++ (v ∷ [])) ≡ select p l ++ (v ∷ [])
-unfolding select
+pub select-yes : (p : ℕ → Bool) (l : List ℕ) (v : ℕ) → p v ≡ true → passing p (l ++ (v ∷ [])) ≡ passing p l ++ (v ∷ [])
+unfolding passing
 select-yes p l v e = select-append p l (v ∷ []) ∙ simp e
 
-pub select-no : (p : ℕ → Bool) (l : List ℕ) (v : ℕ) → p v ≡ false → select p (l ++ (v ∷ [])) ≡ select p l
-unfolding select
+pub select-no : (p : ℕ → Bool) (l : List ℕ) (v : ℕ) → p v ≡ false → passing p (l ++ (v ∷ [])) ≡ passing p l
+unfolding passing
 select-no p l v e = select-append p l (v ∷ []) ∙ simp (e, append-nil)
 
 -- the loop of `paste`: one more element is copied

@@ -14,7 +14,7 @@ use lib.Ieee.{Float}
 use borrow.Author.Tests.{lt-ltb, eq-eqb, ne-eqb}
 use Rattle.cell.specs.declared.Vec3.{Vec3}
 use Rattle.bounds.specs.Bounds.{octantAt}
-use Rattle.octants.specs.Octants.{select, inOctant, octantPoints}
+use Rattle.octants.specs.Octants.{passing, inOctant, octantPoints}
 use Rattle.octants.specs.Inner.{sumBefore, listsFrom, beside, byOctant, Tallied, Dealable, Arranged}
 use Rattle.octants.proofs.Selecting.{select-append, select-yes, select-no}
 use Rattle.octants.proofs.Arranging.{octant-small, octant-few, three-ways, same-or-other, sum-within, sum-same, sum-one, lists-same, lists-whole, octants-sum}
@@ -27,7 +27,7 @@ pub record Tallying (points : List Float) (c : Vec3) (l : List ℕ) (i : ℕ) (k
   pub count : (o : ℕ) → o < 8 → getD counts o 0 ≡ length (octantPoints points c o (take i l))
 
 pub tally-start : (points : List Float) (c : Vec3) (l ks counts : List ℕ) → counts ≡ replicate 8 0 → Tallying points c l 0 ks counts
-unfolding select
+unfolding passing
 tally-start points c l ks counts e =
     record { bound = omega arith; codes = λ j h. absurd (omega arith); count = λ o h. ap (λ (u : List ℕ). getD u o 0) e ∙ getD-replicate 8 o 0 0 h }
 
@@ -118,7 +118,7 @@ module _ (points : List Float) (c : Vec3) (l ks vs : List ℕ) (codes : (i : ℕ
   cond-snoc false x v = sym (append-nil x)
 
   beside-first : (i o : ℕ) → i ≤ length l → beside ks vs i o ≡ octantPoints points c o (take i l)
-  unfolding beside select
+  unfolding beside passing
   beside-first zero o h = refl
   beside-first (suc i) o h =
       rw (codes i (omega arith), value-is i (omega arith), beside-first i o (omega arith))

@@ -7,7 +7,7 @@ use lib.Dec.{eqb}
 use lib.ListN.{length, getD, replicate}
 use lib.Ieee.{Float}
 use Rattle.cell.specs.declared.Vec3.{Vec3}
-use Rattle.frame_limits.specs.Limits.{maxAtoms}
+use Rattle.base.specs.Limits.{maxAtoms}
 use Rattle.bounds.specs.Bounds.{octantAt}
 use Rattle.octants.specs.Octants.{octantPoints}
 

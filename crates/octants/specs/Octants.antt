@@ -9,9 +9,9 @@ use Rattle.cell.specs.declared.Vec3.{Vec3}
 use Rattle.bounds.specs.Bounds.{octantAt}
 
 -- the numbers that pass a test, in their order
-unfoldable pub select : (ℕ → Bool) → List ℕ → List ℕ
-select p [] = []
-select p (v ∷ vs) = cond (p v) (v ∷ select p vs) (select p vs)
+unfoldable pub passing : (ℕ → Bool) → List ℕ → List ℕ
+passing p [] = []
+passing p (v ∷ vs) = cond (p v) (v ∷ passing p vs) (passing p vs)
 
 -- point v lies in octant o about the center c
 abbrev pub inOctant : List Float → Vec3 → ℕ → ℕ → Bool
@@ -19,4 +19,4 @@ inOctant points c o v = eqb (octantAt points c v) o
 
 -- the points vs that lie in octant o
 abbrev pub octantPoints : List Float → Vec3 → ℕ → List ℕ → List ℕ
-octantPoints points c o vs = select (inOctant points c o) vs
+octantPoints points c o vs = passing (inOctant points c o) vs

@@ -4,7 +4,8 @@ use cell::Vec3;
 ghost use mathlib.Core.Path.{_≡_};
 ghost use Prim.Native.Nat.{ℕ, _≤_, _<_};
 ghost use lib.ListN.{length, take, getD, replicate};
-ghost use Rattle.frame_limits.specs.Limits.{maxAtoms};
+ghost use Rattle.base.specs.Entry.{old};
+ghost use Rattle.base.specs.Limits.{maxAtoms};
 ghost use Rattle.bounds.specs.Bounds.{aboveOf, octantAt};
 ghost use Rattle.octants.specs.Inner.{sumBefore, listsFrom, beside, Tallied, Dealable, Sortable, Arranged};
 
@@ -18,7 +19,7 @@ fn above(p: f32, c: f32) -> usize
 
 // The octant of point v about a center, or 0 where there is no such point.
 fn octant(points: &[f32], center: Vec3, v: u32) -> usize
-    ensures { λ r. ⌜ r ≡ octantAt (now (points .entry)) center v ⌝ }
+    ensures { λ r. ⌜ r ≡ octantAt (old points) center v ⌝ }
 {
     let i = (v as usize) * 3;
     if i + 2 < points.len() {
@@ -47,7 +48,7 @@ fn wide(code: u8) -> usize
 // Notes the octant of each point of `order`, and adds up how many points each octant has.
 fn tally(order: &[u32], points: &[f32], center: Vec3, codes: &mut [u8], counts: &mut [usize; 8])
     requires { ⌜ (length (now order) ≤ length (now codes)) × (now counts ≡ replicate 8 0) ⌝ }
-    ensures { λ _. ⌜ Tallied (now (points .entry)) center (now (order .entry)) (now (codes .exit)) (now (counts .exit)) ⌝ }
+    ensures { λ _. ⌜ Tallied (old points) center (old order) (now (codes .exit)) (now (counts .exit)) ⌝ }
 {
     let mut i = 0;
     while i < order.len() {
@@ -62,7 +63,7 @@ fn tally(order: &[u32], points: &[f32], center: Vec3, codes: &mut [u8], counts: 
 fn firsts(counts: &[usize; 8], places: &mut [usize; 8])
     requires { ⌜ (sumBefore (λ o. getD (now counts) o 0) 8 ≤ maxAtoms) × (length (now places) ≡ 8) ⌝ }
     ensures eight { λ _. ⌜ length (now (places .exit)) ≡ 8 ⌝ }
-    ensures sums { λ _. ⌜ ((o : ℕ) → o < 8 → getD (now (places .exit)) o 0 ≡ sumBefore (λ k. getD (now (counts .entry)) k 0) o) ⌝ }
+    ensures sums { λ _. ⌜ ((o : ℕ) → o < 8 → getD (now (places .exit)) o 0 ≡ sumBefore (λ k. getD (old counts) k 0) o) ⌝ }
 {
     let mut at = 0;
     let mut left = 8;
@@ -77,7 +78,7 @@ fn firsts(counts: &[usize; 8], places: &mut [usize; 8])
 // Copies src to the front of dst.
 fn paste(dst: &mut [u32], src: &[u32])
     requires { ⌜ length (now src) ≤ length (now dst) ⌝ }
-    ensures { λ _. ⌜ take (length (now (src .entry))) (now (dst .exit)) ≡ now (src .entry) ⌝ }
+    ensures { λ _. ⌜ take (length (old src)) (now (dst .exit)) ≡ old src ⌝ }
 {
     let mut j = 0;
     while j < src.len() {
@@ -89,7 +90,7 @@ fn paste(dst: &mut [u32], src: &[u32])
 // Puts each saved point, in their order, at the next place of its octant.
 fn deal(saved: &[u32], codes: &[u8], places: &mut [usize; 8], order: &mut [u32])
     requires { ⌜ Dealable (now codes) (now saved) (length (now order)) (now places) ⌝ }
-    ensures { λ _. ⌜ now (order .exit) ≡ listsFrom (beside (now (codes .entry)) (now (saved .entry)) (length (now (order .entry)))) 8 ⌝ }
+    ensures { λ _. ⌜ now (order .exit) ≡ listsFrom (beside (old codes) (old saved) (length (old order))) 8 ⌝ }
 {
     let n = order.len();
     let mut left = n;
@@ -113,7 +114,7 @@ pub fn arrange(
     codes: &mut [u8],
 )
     requires { ⌜ Sortable (now order) (now counts) (length (now scratch)) (length (now codes)) ⌝ }
-    ensures { λ _. ⌜ Arranged (now (points .entry)) center (now (order .entry)) (now (order .exit)) (now (counts .exit)) ⌝ }
+    ensures { λ _. ⌜ Arranged (old points) center (old order) (now (order .exit)) (now (counts .exit)) ⌝ }
 {
     paste(scratch, order);
     tally(order, points, center, codes, counts);

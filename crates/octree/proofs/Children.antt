@@ -11,7 +11,7 @@ use lib.Ieee.{Float}
 use borrow.Author.Tests.{eq-eqb, ne-eqb}
 use Rattle.bounds.specs.declared.OctreeBounds.{OctreeBounds}
 use Rattle.octree.specs.Tree.{Subtrees, Builder, none, join, whereSome, childrenFrom, subtree, rooted}
-use Rattle.division.specs.Split.{splits}
+use Rattle.division.specs.Split.{splits, maxDepth}
 use Rattle.division.specs.Inner.{octantsOf, unsplit}
 
 -- ---- subtrees side by side
@@ -51,18 +51,18 @@ module _ (C W : List Float) (at fc fw : ℕ) (b : OctreeBounds) (cs ws : List �
   below-choice go false = refl
 
 module _ (C W : List Float) (at fc fw : ℕ) (b : OctreeBounds) (cs ws : List ℕ) where
-  subtree-from : (f g d : ℕ) → f ≡ 14 - d → g ≡ 14 - (d + 1) → d ≤ 14
+  subtree-from : (f g d : ℕ) → f ≡ maxDepth - d → g ≡ maxDepth - (d + 1) → d ≤ maxDepth
       → subtree C W f at fc fw b cs ws ≡ rooted d at fc fw b cs ws (below C W (subtree C W g) (octantsOf f cs b) (at + 1) fc fw b cs ws)
   unfolding subtree childrenFrom unsplit octantsOf
-  subtree-from zero g d p q h = let e : d ≡ 14 = omega arith in rw e refl
+  subtree-from zero g d p q h = let e : d ≡ maxDepth = omega arith in rw e refl
   subtree-from (suc f) g d p q h =
-      let e : d ≡ 14 - suc f = omega arith in
+      let e : d ≡ maxDepth - suc f = omega arith in
       let k : g ≡ f = omega arith in
-      rw (e, k) (ap (rooted (14 - suc f) at fc fw b cs ws) (sym (below-choice C W (at + 1) fc fw b cs ws (subtree C W f) (splits b cs))))
+      rw (e, k) (ap (rooted (maxDepth - suc f) at fc fw b cs ws) (sym (below-choice C W (at + 1) fc fw b cs ws (subtree C W f) (splits b cs))))
 
   -- a subtree of depth d by the octants that the code visits
-  pub subtree-by : (d r : ℕ) → d ≤ 14 → r ≡ octantsOf (14 - d) cs b
-      → subtree C W (14 - d) at fc fw b cs ws ≡ rooted d at fc fw b cs ws (below C W (subtree C W (14 - (d + 1))) r (at + 1) fc fw b cs ws)
+  pub subtree-by : (d r : ℕ) → d ≤ maxDepth → r ≡ octantsOf (maxDepth - d) cs b
+      → subtree C W (maxDepth - d) at fc fw b cs ws ≡ rooted d at fc fw b cs ws (below C W (subtree C W (maxDepth - (d + 1))) r (at + 1) fc fw b cs ws)
   subtree-by d r h e =
-      subtree-from (14 - d) (14 - (d + 1)) d refl refl h
-      ∙ ap (λ (n : ℕ). rooted d at fc fw b cs ws (below C W (subtree C W (14 - (d + 1))) n (at + 1) fc fw b cs ws)) (sym e)
+      subtree-from (maxDepth - d) (maxDepth - (d + 1)) d refl refl h
+      ∙ ap (λ (n : ℕ). rooted d at fc fw b cs ws (below C W (subtree C W (maxDepth - (d + 1))) n (at + 1) fc fw b cs ws)) (sym e)

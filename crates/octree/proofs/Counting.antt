@@ -12,11 +12,11 @@ use lib.Ieee.{Float}
 use Rattle.bounds.specs.declared.OctreeBounds.{OctreeBounds}
 use Rattle.bounds.specs.Bounds.{childOf}
 use Rattle.octants.specs.Octants.{octantPoints}
-use Rattle.division.specs.Split.{splits}
+use Rattle.division.specs.Split.{splits, maxDepth}
 use Rattle.nodes.specs.Nodes.{Node}
 use Rattle.octree.specs.Tree.{Subtrees, Builder, none, whereSome, rooted, childrenFrom, subtree, treeOf, pointNumbers}
 use Rattle.octants.specs.Inner.{listsFrom, byOctant}
-use Rattle.nodes.proofs.Filling.{numbers-length}
+use Rattle.base.proofs.Filling.{numbers-length}
 use Rattle.octants.proofs.Arranging.{octants-length}
 use Rattle.octree.proofs.Children.{no-points, some-points}
 
@@ -73,7 +73,7 @@ subtree-few C W (suc f) at fc fw b cs ws h =
 pub nodes-few : (b : OctreeBounds) (C W : List Float) → length (treeOf b C W .nodes) ≤ 15 * (length C / 3 + length W / 3)
 unfolding treeOf
 nodes-few b C W =
-    let k = where-few C W (subtree C W 14) 15 (subtree-few C W 14) 0 0 0 b (pointNumbers C) (pointNumbers W) in
+    let k = where-few C W (subtree C W maxDepth) 15 (subtree-few C W maxDepth) 0 0 0 b (pointNumbers C) (pointNumbers W) in
     omega (arith, k, numbers-length (length C / 3), numbers-length (length W / 3))
 
 -- ---- every node
@@ -97,7 +97,7 @@ every-weaker P Q ns f g n₀ i h = f (getD ns i n₀) (g n₀ i h)
 
 -- at depth 14 at most, with centers among the nc from fc on and waters among the nw from fw on
 pub record NodeWithin (fc nc fw nw : ℕ) (n : Node) : Type 0 where
-  pub shallow : n .depth ≤ 14
+  pub shallow : n .depth ≤ maxDepth
   pub from-c : fc ≤ n .firstCenter
   pub to-c : n .firstCenter + n .centers ≤ fc + nc
   pub from-w : fw ≤ n .firstWater
@@ -142,7 +142,7 @@ module _ (C W : List Float) (go : Builder) (h : Inside go) where
   all-inside : Inside (childrenFrom C W go 8)
   all-inside at fc fw b cs ws = (rw (octants-length C (b .center) cs, octants-length W (b .center) ws) at (children-inside 8 at fc fw b cs ws))
 
-root-inside : (d at fc fw : ℕ) (b : OctreeBounds) (cs ws : List ℕ) (below : Subtrees) → d ≤ 14
+root-inside : (d at fc fw : ℕ) (b : OctreeBounds) (cs ws : List ℕ) (below : Subtrees) → d ≤ maxDepth
     → Every (NodeWithin fc (length cs) fw (length ws)) (below .nodes) → Every (NodeWithin fc (length cs) fw (length ws)) (rooted d at fc fw b cs ws below .nodes)
 root-inside d at fc fw b cs ws below h f =
     every-more (NodeWithin fc (length cs) fw (length ws)) _ (below .nodes)
@@ -150,9 +150,9 @@ root-inside d at fc fw b cs ws below h f =
 
 subtree-inside : (C W : List Float) (f : ℕ) → Inside (subtree C W f)
 unfolding subtree
-subtree-inside C W zero at fc fw b cs ws = root-inside 14 at fc fw b cs ws (none cs ws) (omega arith) (every-none (NodeWithin fc (length cs) fw (length ws)))
+subtree-inside C W zero at fc fw b cs ws = root-inside maxDepth at fc fw b cs ws (none cs ws) (omega arith) (every-none (NodeWithin fc (length cs) fw (length ws)))
 subtree-inside C W (suc f) at fc fw b cs ws =
-    root-inside (14 - suc f) at fc fw b cs ws (cond (splits b cs) (childrenFrom C W (subtree C W f) 8 (at + 1) fc fw b cs ws) (none cs ws)) (omega arith)
+    root-inside (maxDepth - suc f) at fc fw b cs ws (cond (splits b cs) (childrenFrom C W (subtree C W f) 8 (at + 1) fc fw b cs ws) (none cs ws)) (omega arith)
     (either (λ (g : Subtrees). Every (NodeWithin fc (length cs) fw (length ws)) (g .nodes)) (splits b cs) (childrenFrom C W (subtree C W f) 8 (at + 1) fc fw b cs ws) (none cs ws)
     (all-inside C W (subtree C W f) (subtree-inside C W f) (at + 1) fc fw b cs ws) (every-none (NodeWithin fc (length cs) fw (length ws))))
 
@@ -163,4 +163,4 @@ nodes-within b C W =
     let kw = numbers-length (length W / 3) in
     every-weaker (NodeWithin 0 (length (pointNumbers C)) 0 (length (pointNumbers W))) (NodeWithin 0 (length C / 3) 0 (length W / 3)) (treeOf b C W .nodes)
     (wider 0 (length C / 3) 0 (length W / 3) 0 (length (pointNumbers C)) 0 (length (pointNumbers W)) (omega arith) (omega (arith, kc)) (omega arith) (omega (arith, kw)))
-    (where-inside C W (subtree C W 14) (subtree-inside C W 14) 0 0 0 b (pointNumbers C) (pointNumbers W))
+    (where-inside C W (subtree C W maxDepth) (subtree-inside C W maxDepth) 0 0 0 b (pointNumbers C) (pointNumbers W))

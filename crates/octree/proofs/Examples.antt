@@ -9,9 +9,11 @@ use Rattle.cell.specs.Cell.{pointAt}
 use Rattle.cell.specs.declared.Vec3.{Vec3}
 use Rattle.octree.specs.declared.Built.the-variants.{Nodes, Full}
 use Rattle.bounds.specs.Bounds.{cellBox, childOf, wideBox, octantAt}
-use Rattle.octants.specs.Octants.{select}
-use Rattle.octree.specs.Tree.{Subtrees, whereSome, childrenFrom, subtree, treeOf, builtAnswer}
-use Rattle.nodes.specs.Nodes.{firstNumbers, deepest, recordsOf, boxesOf}
+use Rattle.octants.specs.Octants.{passing}
+use Rattle.octree.specs.Tree.{Subtrees, whereSome, childrenFrom, subtree, treeOf}
+use Rattle.octree.specs.Inner.{builtAnswer}
+use Rattle.base.specs.Tables.{firstNumbers}
+use Rattle.nodes.specs.Nodes.{deepest, recordsOf, boxesOf}
 
 -- 0, 2, 4, 6 and 16
 abbrev f0 : Float
@@ -51,5 +53,5 @@ pub record Listed : Type 0 where
   pub waterOrder : frame .waterOrder ≡ 0 ∷ []
 
 pub listed : Listed
-unfolding treeOf whereSome subtree childrenFrom firstNumbers select octantAt pointAt childOf wideBox deepest recordsOf boxesOf ofBits ofFields odd units round span climb size sum add sub mul neg lt
+unfolding treeOf whereSome subtree childrenFrom firstNumbers passing octantAt pointAt childOf wideBox deepest recordsOf boxesOf ofBits ofFields odd units round span climb size sum add sub mul neg lt
 listed = record { answer = refl; refused = refl; records = refl; leaves = refl; centerOrder = refl; waterOrder = refl }

@@ -6,8 +6,8 @@ use native.Mathlib.Nat.{add-zero}
 use native.Mathlib.Omega.{arith}
 use lib.ListN.{length, length-append}
 use lib.Ieee.{Float}
-use Rattle.frame_limits.specs.Limits.{maxAtoms}
-use Rattle.cell.specs.Tables.{placed}
+use Rattle.base.specs.Limits.{maxAtoms}
+use Rattle.base.specs.Tables.{placed}
 use Rattle.cell.specs.declared.Vec3.{Vec3}
 use Rattle.bounds.specs.declared.OctreeBounds.{OctreeBounds}
 use Rattle.octree.specs.declared.Built.{Built}
@@ -20,8 +20,7 @@ use Rattle.octants.specs.Inner.{listsFrom, byOctant}
 use Rattle.division.specs.Inner.{unsplit, Divided}
 use Rattle.octree.specs.Inner.{Filled}
 use Rattle.octree.proofs.Stretches.{Next, stretch, stretchPut, child-order, child-length}
-use Rattle.cell.proofs.Tables.{placed-none}
-use Rattle.nodes.proofs.Placing.{placed-next}
+use Rattle.base.proofs.Placing.{placed-none, placed-next}
 use Rattle.nodes.proofs.NodeTables.{records-append, boxes-append, records-length, boxes-length, deepest-append}
 use Rattle.octree.proofs.Children.{below, join-none, join-assoc, no-points, some-points}
 

@@ -7,15 +7,15 @@ use native.Mathlib.Nat.{add-zero}
 use native.Mathlib.Omega.{arith}
 use lib.ListN.{length}
 use lib.Ieee.{Float}
-use Rattle.cell.specs.Tables.{placed}
+use Rattle.base.specs.Tables.{placed}
 use Rattle.octree.specs.declared.Built as Built
 use Rattle.octree.specs.declared.Built.{Built}
 use Rattle.nodes.specs.Nodes.{Node, deepest, cornersOf, recordsOf, boxesOf}
 use Rattle.octree.specs.Tree.{Subtrees, none, join, childrenFrom, rooted}
 use Rattle.octants.specs.Inner.{listsFrom}
 use Rattle.octree.specs.Inner.{Filled, Planted}
-use Rattle.nodes.proofs.Placing.{eight, placed-before}
-use Rattle.nodes.proofs.NodeTables.{records-length, boxes-length}
+use Rattle.nodes.proofs.NodeTables.{eight, records-length, boxes-length}
+use Rattle.base.proofs.Placing.{placed-before}
 use Rattle.octree.proofs.Growing.{Site, Turn, Growing, wholeOf, laterC, laterW}
 
 module _ (S : Site) (T : Turn) (z : Growing S T) (no-turn : T .left ≡ 0) (rr : S .room * 8 ≤ length (S .rec₀)) (rb : S .room * 6 ≤ length (S .box₀)) where

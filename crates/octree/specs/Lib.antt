@@ -1,3 +1,3 @@
--- The octree of a frame: the tree and what building it answers and leaves, and what only the inner contract cites.
+-- The octree of a frame: the tree and what building it leaves; what only contracts of inner functions cite.
 pub mod Tree
 pub mod Inner

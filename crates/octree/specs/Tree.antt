@@ -2,20 +2,18 @@
 -- Definitions only. Assumes nothing.
 use mathlib.Core.Bool.{cond}
 use mathlib.Core.List.{List, [], _∷_, _++_}
-use mathlib.Core.Path.{_≡_}
-use Prim.Native.Nat.{ℕ, zero, suc, _+_, _-_, _*_, _/_, _≤_, min}
+use Prim.Native.Nat.{ℕ, zero, suc, _+_, _-_, _/_}
 use lib.Dec.{eqb, ltb}
 use lib.ListN.{length, replicate}
-use lib.Ieee.{Float, binary32, ofBits}
-use Rattle.frame_limits.specs.Limits.{maxAtoms}
-use Rattle.cell.specs.Tables.{over, unlessRefused}
+use lib.Ieee.{Float}
+use Rattle.floats.specs.Constants.{zero32}
+use Rattle.base.specs.Refusals.{Refusal, refuse}
+use Rattle.base.specs.Tables.{over, firstNumbers}
 use Rattle.bounds.specs.declared.OctreeBounds.{OctreeBounds}
 use Rattle.bounds.specs.Bounds.{childOf}
 use Rattle.octants.specs.Octants.{octantPoints}
 use Rattle.division.specs.Split.{maxDepth, splits}
-use Rattle.nodes.specs.Nodes.{Node, deepest, recordsOf, boxesOf, firstNumbers}
-use Rattle.octree.specs.declared.Built.{Built}
-use Rattle.octree.specs.declared.Built.the-variants.{Nodes, Full}
+use Rattle.nodes.specs.Nodes.{Node, recordsOf, boxesOf}
 
 -- ---- subtrees
 -- side by side: how many, their nodes in preorder, and the order lists as they arrange them
@@ -94,39 +92,29 @@ pointNumbers points = firstNumbers (length points / 3)
 unfoldable pub treeOf : OctreeBounds → List Float → List Float → Subtrees
 treeOf b C W = whereSome (subtree C W maxDepth) 0 0 0 b (pointNumbers C) (pointNumbers W)
 
--- ---- the answer
--- an order list with a place for each point, within the limit
-pub record Numbered (points : List Float) (order : List ℕ) : Type 0 where
-  pub few : length order ≤ maxAtoms
-  pub all : length points ≡ 3 * length order
-
--- the whole records of the smallest node table; `limit` is the room in a further one
-abbrev pub treeRoom : List ℕ → List Float → ℕ → ℕ
-treeRoom records boxes limit = min (min (length records / 8) (length boxes / 6)) limit
-
 -- 13 where the nodes exceed the room
-abbrev pub treeRefusal : ℕ → Subtrees → ℕ
-treeRefusal room t = cond (ltb room (length (t .nodes))) 13 0
+abbrev pub roomRefusal : ℕ → Subtrees → Refusal
+roomRefusal room g = refuse 13 (ltb room (length (g .nodes)))
 
--- the number of nodes and the greatest depth, or 13
-abbrev pub builtAnswer : ℕ → Subtrees → Built
-builtAnswer room t = unlessRefused (treeRefusal room t) (Nodes (length (t .nodes)) (deepest (t .nodes))) Full
+-- ---- the tables afterwards
+pub record TreeTables : Type 0 where
+  pub centerOrder : List ℕ
+  pub waterOrder : List ℕ
+  pub records : List ℕ
+  pub boxes : List Float
 
--- the number of each case of an answer
-abbrev pub builtNumber : Built → ℕ
-builtNumber (Nodes n d) = 0
-builtNumber Full = 13
+abbrev pub treeTables : List ℕ → List ℕ → List ℕ → List Float → TreeTables
+treeTables centerOrder waterOrder records boxes = record { centerOrder = centerOrder; waterOrder = waterOrder; records = records; boxes = boxes }
 
--- the order lists afterwards; at 13 they are 0, 1, 2, .. over the points
-abbrev pub centerOrderLeft : ℕ → Subtrees → List Float → List ℕ
-centerOrderLeft room t C = unlessRefused (treeRefusal room t) (t .centerOrder) (pointNumbers C)
+-- by the number that is answered: x at success, y at 13, z at any other refusal
+abbrev pub byNumber : {A : Type 0} → ℕ → A → A → A → A
+byNumber r x y z = cond (eqb r 0) x (cond (eqb r 13) y z)
 
-abbrev pub waterOrderLeft : ℕ → Subtrees → List Float → List ℕ
-waterOrderLeft room t W = unlessRefused (treeRefusal room t) (t .waterOrder) (pointNumbers W)
-
--- the node tables afterwards; at 13 they are all zero
-abbrev pub recordsLeft : ℕ → Subtrees → List ℕ → List ℕ
-recordsLeft room t table = unlessRefused (treeRefusal room t) (over (recordsOf (t .nodes)) table) (replicate (length table) 0)
-
-abbrev pub boxesLeft : ℕ → Subtrees → List Float → List Float
-boxesLeft room t table = unlessRefused (treeRefusal room t) (over (boxesOf (t .nodes)) table) (replicate (length table) (ofBits binary32 0))
+-- the tables t of n centers and m waters after the answer of number r: the tree's order lists and nodes; at 13 order lists 0, 1, 2, .. and node
+-- tables of zeros; at any other refusal as they were
+unfoldable pub tablesAfter : ℕ → Subtrees → ℕ → ℕ → TreeTables → TreeTables
+tablesAfter r g n m t =
+    byNumber r
+    (treeTables (over (g .centerOrder) (t .centerOrder)) (over (g .waterOrder) (t .waterOrder)) (over (recordsOf (g .nodes)) (t .records)) (over (boxesOf (g .nodes)) (t .boxes)))
+    (treeTables (over (firstNumbers n) (t .centerOrder)) (over (firstNumbers m) (t .waterOrder)) (replicate (length (t .records)) 0) (replicate (length (t .boxes)) zero32))
+    t

@@ -3,18 +3,12 @@ use crate::Built;
 use bounds::OctreeBounds;
 use division::divide;
 use nodes::put_node;
-ghost use mathlib.Core.Path.{_≡_};
-ghost use Prim.Native.Nat.{_-_, max};
+ghost use Prim.Native.Nat.{_-_};
 ghost use lib.ListN.{length};
+ghost use Rattle.base.specs.Entry.{old};
 ghost use Rattle.division.specs.Split.{maxDepth};
 ghost use Rattle.octree.specs.Tree.{subtree};
 ghost use Rattle.octree.specs.Inner.{Ready, Planted};
-
-fn larger(a: usize, b: usize) -> usize
-    ensures { λ r. ⌜ r ≡ max a b ⌝ }
-{
-    if a < b { b } else { a }
-}
 
 // Builds the subtree of a box. Its centers and waters are the two order lists, whose first entries are number fc and fw of the whole.
 // Its nodes are numbered from `at` on, and there is room for `room` in all. Answers the number after its nodes and the greatest depth.
@@ -35,9 +29,10 @@ pub fn build(
     codes: &mut [u8],
 ) -> Built
     requires { ⌜ Ready depth (length (now corder)) (length (now worder)) fc fw (length (now records)) (length (now boxes)) room (length (now scratch)) (length (now codes)) ⌝ }
-    ensures { λ r. ⌜ Planted room (subtree (now (centers .entry)) (now (waters .entry)) (maxDepth - depth) at fc fw b (now (corder .entry)) (now (worder .entry))) at r
-        (now (corder .exit)) (now (worder .exit)) (now (records .entry)) (now (records .exit)) (now (boxes .entry)) (now (boxes .exit)) ⌝ }
+    ensures { λ r. ⌜ Planted room (subtree (old centers) (old waters) (maxDepth - depth) at fc fw b (old corder) (old worder)) at r
+        (now (corder .exit)) (now (worder .exit)) (old records) (now (records .exit)) (old boxes) (now (boxes .exit)) ⌝ }
 {
+    // The node itself has no record left.
     if at >= room {
         return Built::Full;
     }
@@ -60,11 +55,13 @@ pub fn build(
         scratch,
         codes,
     );
+    // Octants by rising number, the last `left` of them; none where the node does not split.
     while 0 < left {
         let o = 8 - left;
         left -= 1;
         let nc = ccounts[o];
         let nw = wcounts[o];
+        // An octant without points gets no node.
         if nc + nw == 0 {
             continue;
         }
@@ -92,8 +89,9 @@ pub fn build(
         wa = we;
         next = n;
         children += 1;
-        deep = larger(deep, d);
+        deep = base::max(deep, d);
     }
+    // The record is written last: only now the children and the node after them are known.
     put_node(
         records,
         boxes,

@@ -7,11 +7,11 @@ use native.Mathlib.Omega.{arith}
 use lib.Ieee.{Float}
 use lib.ListN.{length, getD, drop, length-take, length-drop}
 use lib.Seq.{getD-take, getD-drop}
-use Rattle.pick_lists.specs.Sound.{finiteAtom}
-use Rattle.pick_lists.specs.Sound.{copiesIn, pickList}
+use Rattle.base.specs.Limits.{maxPicks}
+use Rattle.pick_lists.specs.Sound.{finiteAtom, copies, pickList}
 use Rattle.pick_lists.proofs.SoundLists.{Lists}
 
-module _ (xs : List Float) (starts picks : List ℕ) (l : Lists xs starts picks) (i : ℕ) (h : i < copiesIn starts) where
+module _ (xs : List Float) (starts picks : List ℕ) (l : Lists xs starts picks) (i : ℕ) (h : i < copies starts) where
   -- what `copy_picks` asks
   pub copy-part : (i + 1 < length starts) × (getD starts i 0 ≤ getD starts (i + 1) 0) × (getD starts (i + 1) 0 ≤ length picks)
   copy-part = (omega (arith, l .number), omega (arith, l .rises i h), l .ends (i + 1) (omega arith))
@@ -25,7 +25,7 @@ module _ (xs : List Float) (starts picks : List ℕ) (l : Lists xs starts picks)
   pub copy-some : 0 < length (pickList starts picks i)
   copy-some = omega (arith, copy-length, l .rises i h)
 
-  pub copy-few : length (pickList starts picks i) ≤ 65536
+  pub copy-few : length (pickList starts picks i) ≤ maxPicks
   copy-few = omega (arith, copy-length, copy-part .2, l .short)
 
   -- pick k of the copy is a pick of the whole list

@@ -15,10 +15,10 @@ use lib.Ieee.Scale.{finite}
 use borrow.Author.Tests.{lt-ltb, le-ltb, ltb-true, ltb-false, lt-leb, le-leb, leb-true, eq-eqb, eqb-true, eqb-false}
 use Rattle.floats.proofs.Tests.{both}
 use Rattle.cell.specs.Cell.{pointAt, finitePoint}
-use Rattle.frame_limits.specs.Limits.{maxCopies, maxPicks}
-use Rattle.cell.proofs.FirstRefusal.{neither}
-use Rattle.pick_lists.specs.Sound.{finiteAtom}
-use Rattle.pick_lists.specs.Sound.{rises, finiteCoordinates, allFinite, copiesIn, soundStarts, soundLists}
+use Rattle.base.specs.Limits.{maxCopies, maxPicks}
+use Rattle.base.proofs.Tests.{neither}
+use Rattle.pick_lists.specs.Sound.{finiteAtom, rises, allFinite, copies, soundStarts, soundLists}
+use Rattle.pick_lists.specs.Inner.{finiteCoordinates}
 
 -- ---- the starts rise: what is left from a start on decides
 rises-next : (l : List ℕ) (k : ℕ) → suc k < length l → rises (drop k l) ≡ (ltb (getD l k 0) (getD l (suc k) 0) && rises (drop (suc k) l))
@@ -104,32 +104,32 @@ pub named-step : (xs : List Float) (ps : List ℕ) (j : ℕ) (all : Bool) → fi
 named-step xs ps j all f h = rw (finite-more xs ps j h, named xs (getD ps j 0) f) (and-assoc all (ltb (getD ps j 0) (length xs / 3)) (allFinite xs (drop (j + 1) ps)))
 
 -- ---- the starts' number: outside 1 .. 4,097 they are not sound, and inside the other tests decide
-pub starts-outside : (starts : List ℕ) (n : ℕ) → (eqb (length starts) 0 || ltb 4097 (length starts)) ≡ true → soundStarts starts n ≡ false
+pub starts-outside : (starts : List ℕ) (n : ℕ) → (eqb (length starts) 0 || ltb (maxCopies + 1) (length starts)) ≡ true → soundStarts starts n ≡ false
 unfolding soundStarts
-starts-outside starts n e = by-test (eqb (length starts) 0) (ltb 4097 (length starts)) refl refl e
+starts-outside starts n e = by-test (eqb (length starts) 0) (ltb (maxCopies + 1) (length starts)) refl refl e
   where
-    by-test : (a b : Bool) → eqb (length starts) 0 ≡ a → ltb 4097 (length starts) ≡ b → (a || b) ≡ true → soundStarts starts n ≡ false
+    by-test : (a b : Bool) → eqb (length starts) 0 ≡ a → ltb (maxCopies + 1) (length starts) ≡ b → (a || b) ≡ true → soundStarts starts n ≡ false
     by-test true b h k t = rw (le-ltb 0 (length starts) (omega (arith, eqb-true (length starts) 0 h)))
     by-test false true h k t =
-        let many : 4097 < length starts = ltb-true 4097 (length starts) k in
-        rw (lt-ltb 0 (length starts) (omega arith), lt-leb (length starts) 4097 many)
+        let many : maxCopies + 1 < length starts = ltb-true (maxCopies + 1) (length starts) k in
+        rw (lt-ltb 0 (length starts) (omega arith), lt-leb (length starts) (maxCopies + 1) many)
     by-test false false h k t = absurd (false≢true t)
 
-pub starts-number : (m : ℕ) → (eqb m 0 || ltb 4097 m) ≡ false → (0 < m) × (m ≤ 4097)
+pub starts-number : (m : ℕ) → (eqb m 0 || ltb (maxCopies + 1) m) ≡ false → (0 < m) × (m ≤ maxCopies + 1)
 starts-number m e =
-    let tests = neither (eqb m 0) (ltb 4097 m) e in
-    (omega (arith, eqb-false m 0 (tests .0)), ltb-false 4097 m (tests .1))
+    let tests = neither (eqb m 0) (ltb (maxCopies + 1) m) e in
+    (omega (arith, eqb-false m 0 (tests .0)), ltb-false (maxCopies + 1) m (tests .1))
 
-starts-inside : (starts : List ℕ) (n : ℕ) → 0 < length starts → length starts ≤ 4097 → soundStarts starts n ≡ (eqb (getD starts 0 0) 0 && (rises starts && (eqb (getD starts (copiesIn starts) 0) n && leb n maxPicks)))
+starts-inside : (starts : List ℕ) (n : ℕ) → 0 < length starts → length starts ≤ maxCopies + 1 → soundStarts starts n ≡ (eqb (getD starts 0 0) 0 && (rises starts && (eqb (getD starts (copies starts) 0) n && leb n maxPicks)))
 unfolding soundStarts
-starts-inside starts n some few = rw (lt-ltb 0 (length starts) some, le-leb (length starts) 4097 few)
+starts-inside starts n some few = rw (lt-ltb 0 (length starts) some, le-leb (length starts) (maxCopies + 1) few)
 
-pub starts-rest : (starts : List ℕ) (n : ℕ) → (eqb (length starts) 0 || ltb 4097 (length starts)) ≡ false → soundStarts starts n ≡ (eqb (getD starts 0 0) 0 && (rises starts && (eqb (getD starts (copiesIn starts) 0) n && leb n maxPicks)))
+pub starts-rest : (starts : List ℕ) (n : ℕ) → (eqb (length starts) 0 || ltb (maxCopies + 1) (length starts)) ≡ false → soundStarts starts n ≡ (eqb (getD starts 0 0) 0 && (rises starts && (eqb (getD starts (copies starts) 0) n && leb n maxPicks)))
 starts-rest starts n e = starts-inside starts n (starts-number (length starts) e .0) (starts-number (length starts) e .1)
 
-pub starts-sound : (starts : List ℕ) (n : ℕ) → 0 < length starts → length starts ≤ 4097 → getD starts 0 0 ≡ 0 → rises starts ≡ true → getD starts (copiesIn starts) 0 ≡ n → n ≤ maxPicks → soundStarts starts n ≡ true
+pub starts-sound : (starts : List ℕ) (n : ℕ) → 0 < length starts → length starts ≤ maxCopies + 1 → getD starts 0 0 ≡ 0 → rises starts ≡ true → getD starts (copies starts) 0 ≡ n → n ≤ maxPicks → soundStarts starts n ≡ true
 starts-sound starts n some few first up last short =
-    rw (starts-inside starts n some few, eq-eqb (getD starts 0 0) 0 first, up, eq-eqb (getD starts (copiesIn starts) 0) n last, le-leb n maxPicks short)
+    rw (starts-inside starts n some few, eq-eqb (getD starts 0 0) 0 first, up, eq-eqb (getD starts (copies starts) 0) n last, le-leb n maxPicks short)
 
 -- ---- the tests, number by number
 rises-at : (l : List ℕ) → rises l ≡ true → (i : ℕ) → suc i < length l → getD l i 0 < getD l (suc i) 0
@@ -178,12 +178,12 @@ finite-from xs (p ∷ ps) f =
 
 -- ---- what sound pick lists have; the layers above read `picks[starts[i]..starts[i + 1]]` and the atoms there
 pub record Lists (xs : List Float) (starts picks : List ℕ) : Type 0 where
-  pub number : length starts ≡ copiesIn starts + 1
-  pub few : copiesIn starts ≤ maxCopies
+  pub number : length starts ≡ copies starts + 1
+  pub few : copies starts ≤ maxCopies
   pub first : getD starts 0 0 ≡ 0
-  pub rises : (i : ℕ) → i < copiesIn starts → getD starts i 0 < getD starts (i + 1) 0
-  pub ends : (i : ℕ) → i ≤ copiesIn starts → getD starts i 0 ≤ length picks
-  pub last : getD starts (copiesIn starts) 0 ≡ length picks
+  pub rises : (i : ℕ) → i < copies starts → getD starts i 0 < getD starts (i + 1) 0
+  pub ends : (i : ℕ) → i ≤ copies starts → getD starts i 0 ≤ length picks
+  pub last : getD starts (copies starts) 0 ≡ length picks
   pub short : length picks ≤ maxPicks
   pub atoms : (j : ℕ) → j < length picks → getD picks j 0 * 3 + 2 < length xs
   pub finite : (j : ℕ) → j < length picks → finiteAtom xs (getD picks j 0) ≡ true
@@ -192,15 +192,15 @@ pub sound-lists : (xs : List Float) (starts picks : List ℕ) → soundLists xs 
 unfolding soundLists soundStarts
 sound-lists xs starts picks e =
     let all = both (soundStarts starts (length picks)) (allFinite xs picks) e in
-    let end = eqb (getD starts (copiesIn starts) 0) (length picks) && leb (length picks) maxPicks in
+    let end = eqb (getD starts (copies starts) 0) (length picks) && leb (length picks) maxPicks in
     let tests = eqb (getD starts 0 0) 0 && (rises starts && end) in
     let p1 = both (ltb 0 (length starts)) (leb (length starts) (maxCopies + 1) && tests) (all .0) in
     let p2 = both (leb (length starts) (maxCopies + 1)) tests (p1 .1) in
     let p3 = both (eqb (getD starts 0 0) 0) (rises starts && end) (p2 .1) in
     let p4 = both (rises starts) end (p3 .1) in
-    let p5 = both (eqb (getD starts (copiesIn starts) 0) (length picks)) (leb (length picks) maxPicks) (p4 .1) in
+    let p5 = both (eqb (getD starts (copies starts) 0) (length picks)) (leb (length picks) maxPicks) (p4 .1) in
     let some : 0 < length starts = ltb-true 0 (length starts) (p1 .0) in
-    let few : length starts ≤ 4097 = leb-true (length starts) 4097 (p2 .0) in
+    let few : length starts ≤ maxCopies + 1 = leb-true (length starts) (maxCopies + 1) (p2 .0) in
     let last : getD starts (length starts - 1) 0 ≡ length picks = eqb-true (getD starts (length starts - 1) 0) (length picks) (p5 .0) in
     record {
       number = omega arith;

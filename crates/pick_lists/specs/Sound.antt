@@ -5,10 +5,9 @@ use mathlib.Core.List.{List, [], _∷_}
 use lib.Dec.{ltb, leb, eqb}
 use lib.ListN.{length, getD, take, drop}
 use lib.Ieee.{Float}
-use lib.Ieee.Scale.{finite}
-use Rattle.frame_limits.specs.Limits.{maxCopies, maxPicks}
+use Rattle.base.specs.Limits.{maxCopies, maxPicks}
 use Rattle.cell.specs.Cell.{pointAt, finitePoint}
-use Rattle.cell.specs.Refusals.{Refusal, refuse}
+use Rattle.base.specs.Refusals.{Refusal, refuse}
 
 -- atom k of the solutes is finite
 unfoldable pub finiteAtom : List Float → ℕ → Bool
@@ -20,11 +19,6 @@ rises [] = true
 rises (a ∷ []) = true
 rises (a ∷ b ∷ xs) = ltb a b && rises (b ∷ xs)
 
--- every coordinate is finite
-unfoldable pub finiteCoordinates : List Float → Bool
-finiteCoordinates [] = true
-finiteCoordinates (x ∷ xs) = finite x && finiteCoordinates xs
-
 -- each pick names a finite atom
 unfoldable pub allFinite : List Float → List ℕ → Bool
 unfolding finiteAtom
@@ -32,8 +26,8 @@ allFinite xs [] = true
 allFinite xs (p ∷ ps) = (ltb (p * 3 + 2) (length xs) && finiteAtom xs p) && allFinite xs ps
 
 -- the number of copies in the pick lists
-abbrev pub copiesIn : List ℕ → ℕ
-copiesIn starts = length starts - 1
+abbrev pub copies : List ℕ → ℕ
+copies starts = length starts - 1
 
 -- the picks of copy i
 unfoldable pub pickList : List ℕ → List ℕ → ℕ → List ℕ
@@ -43,7 +37,7 @@ pickList starts picks i = take (getD starts (i + 1) 0 - getD starts i 0) (drop (
 unfoldable pub soundStarts : List ℕ → ℕ → Bool
 unfolding rises
 soundStarts starts picks =
-    ltb 0 (length starts) && (leb (length starts) (maxCopies + 1) && (eqb (getD starts 0 0) 0 && (rises starts && (eqb (getD starts (copiesIn starts) 0) picks && leb picks maxPicks))))
+    ltb 0 (length starts) && (leb (length starts) (maxCopies + 1) && (eqb (getD starts 0 0) 0 && (rises starts && (eqb (getD starts (copies starts) 0) picks && leb picks maxPicks))))
 
 unfoldable pub soundLists : List Float → List ℕ → List ℕ → Bool
 unfolding soundStarts allFinite

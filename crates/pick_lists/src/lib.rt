@@ -1,22 +1,24 @@
 // Pick lists (document 01, 'Selection' and refusal 8): whether they are sound, the picks of a copy, and the refusals that every call on them makes
 // first.
+use base::MAX_ATOMS;
+use base::MAX_COPIES;
+use base::MAX_PICKS;
 use cell::Cell;
-use frame_limits::MAX_ATOMS;
-use frame_limits::MAX_COPIES;
-use frame_limits::MAX_PICKS;
 ghost use mathlib.Core.Path.{_≡_};
 ghost use mathlib.Core.Bool.{true, _&&_};
 ghost use Prim.Native.Nat.{_+_, _*_, _/_, _≤_, _<_};
 ghost use lib.Dec.{ltb};
 ghost use lib.ListN.{length, getD};
-ghost use Rattle.cell.specs.Refusals.{firstRefusal};
-ghost use Rattle.pick_lists.specs.Sound.{finiteAtom, rises as risesOf, finiteCoordinates, allFinite, pickList, soundStarts, soundLists};
-ghost use Rattle.pick_lists.specs.Input.{inputRefusals};
+ghost use Rattle.base.specs.Entry.{old};
+ghost use Rattle.base.specs.Refusals.{firstRefusal};
+ghost use Rattle.pick_lists.specs.Sound.{finiteAtom, rises as risesOf, allFinite, pickList, soundStarts, soundLists};
+ghost use Rattle.pick_lists.specs.Inner.{finiteCoordinates};
+ghost use Rattle.pick_lists.specs.Input.{given, inputRefusals};
 
 // Whether solute atom k is finite.
 pub fn finite_atom(xs: &[f32], k: usize) -> bool
     requires { ⌜ k * 3 + 2 < length (now xs) ⌝ }
-    ensures { λ r. ⌜ r ≡ finiteAtom (now (xs .entry)) k ⌝ }
+    ensures { λ r. ⌜ r ≡ finiteAtom (old xs) k ⌝ }
 {
     cell::is_finite(cell::point(xs, k))
 }
@@ -24,7 +26,7 @@ pub fn finite_atom(xs: &[f32], k: usize) -> bool
 // Whether index i names a finite atom of the copy at base.
 pub fn named(xs: &[f32], per: usize, base: usize, i: usize) -> bool
     requires { ⌜ (base + per) * 3 ≤ length (now xs) ⌝ }
-    ensures { λ r. ⌜ r ≡ (ltb i per && finiteAtom (now (xs .entry)) (base + i)) ⌝ }
+    ensures { λ r. ⌜ r ≡ (ltb i per && finiteAtom (old xs) (base + i)) ⌝ }
 {
     if i < per {
         return finite_atom(xs, base + i);
@@ -34,7 +36,7 @@ pub fn named(xs: &[f32], per: usize, base: usize, i: usize) -> bool
 
 // Whether each number is below the next. Here and below a loop without a branch lets a processor test several numbers at once.
 fn rises(starts: &[u32]) -> bool
-    ensures { λ r. ⌜ r ≡ risesOf (now (starts .entry)) ⌝ }
+    ensures { λ r. ⌜ r ≡ risesOf (old starts) ⌝ }
 {
     let mut all = true;
     let mut i: usize = 1;
@@ -47,7 +49,7 @@ fn rises(starts: &[u32]) -> bool
 
 // Whether every coordinate is finite.
 fn coordinates_finite(xs: &[f32]) -> bool
-    ensures { λ r. ⌜ r ≡ finiteCoordinates (now (xs .entry)) ⌝ }
+    ensures { λ r. ⌜ r ≡ finiteCoordinates (old xs) ⌝ }
 {
     let mut all = true;
     let mut i = 0;
@@ -62,7 +64,7 @@ fn coordinates_finite(xs: &[f32]) -> bool
 fn all_named(xs: &[f32], picks: &[u32], atoms: u32) -> bool
     requires { ⌜ atoms ≡ length (now xs) / 3 ⌝ }
     requires { ⌜ finiteCoordinates (now xs) ≡ true ⌝ }
-    ensures { λ r. ⌜ r ≡ allFinite (now (xs .entry)) (now (picks .entry)) ⌝ }
+    ensures { λ r. ⌜ r ≡ allFinite (old xs) (old picks) ⌝ }
 {
     let mut all = true;
     let mut j = 0;
@@ -75,7 +77,7 @@ fn all_named(xs: &[f32], picks: &[u32], atoms: u32) -> bool
 
 // Whether each pick names a finite atom, an atom at a time.
 fn each_finite(xs: &[f32], picks: &[u32]) -> bool
-    ensures { λ r. ⌜ r ≡ allFinite (now (xs .entry)) (now (picks .entry)) ⌝ }
+    ensures { λ r. ⌜ r ≡ allFinite (old xs) (old picks) ⌝ }
 {
     let atoms = xs.len() / 3;
     let mut j = 0;
@@ -91,7 +93,7 @@ fn each_finite(xs: &[f32], picks: &[u32]) -> bool
 // Whether each pick names a finite atom. Most lists have no coordinate that is not finite, and a pass over all of them is quicker than one
 // over the picked ones.
 fn all_finite(xs: &[f32], picks: &[u32]) -> bool
-    ensures { λ r. ⌜ r ≡ allFinite (now (xs .entry)) (now (picks .entry)) ⌝ }
+    ensures { λ r. ⌜ r ≡ allFinite (old xs) (old picks) ⌝ }
 {
     if (xs.len() <= MAX_ATOMS * 3) & coordinates_finite(xs) {
         return all_named(xs, picks, (xs.len() / 3) as u32);
@@ -100,7 +102,7 @@ fn all_finite(xs: &[f32], picks: &[u32]) -> bool
 }
 
 fn starts_sound(starts: &[u32], picks: usize) -> bool
-    ensures { λ r. ⌜ r ≡ soundStarts (now (starts .entry)) picks ⌝ }
+    ensures { λ r. ⌜ r ≡ soundStarts (old starts) picks ⌝ }
 {
     if (starts.len() == 0) | (starts.len() > MAX_COPIES + 1) {
         return false;
@@ -111,7 +113,7 @@ fn starts_sound(starts: &[u32], picks: usize) -> bool
 
 // Whether starts and picks are sound pick lists of the solutes xs: what 8 asks for.
 pub fn is_sound(xs: &[f32], starts: &[u32], picks: &[u32]) -> bool
-    ensures { λ r. ⌜ r ≡ soundLists (now (xs .entry)) (now (starts .entry)) (now (picks .entry)) ⌝ }
+    ensures { λ r. ⌜ r ≡ soundLists (old xs) (old starts) (old picks) ⌝ }
 {
     if !starts_sound(starts, picks.len()) {
         return false;
@@ -127,7 +129,7 @@ pub fn input_refusal(
     starts: &[u32],
     picks: &[u32],
 ) -> u32
-    ensures { λ r. ⌜ r ≡ firstRefusal (inputRefusals cell (now (solutes .entry)) (now (waters .entry)) (now (starts .entry)) (now (picks .entry))) ⌝ }
+    ensures { λ r. ⌜ r ≡ firstRefusal (inputRefusals (given cell (old solutes) (old waters) (old starts) (old picks))) ⌝ }
 {
     let refusal = frame_limits::frame_refusal(cell, solutes, waters);
     if refusal != 0 {
@@ -139,19 +141,12 @@ pub fn input_refusal(
     0
 }
 
-// A word of a table as an index.
-fn wide(x: u32) -> usize
-    ensures { λ r. ⌜ r ≡ x ⌝ }
-{
-    x as usize
-}
-
 // The picks of copy i; sound pick lists have what is asked.
 pub fn copy_picks<'a>(starts: &[u32], picks: &'a [u32], i: usize) -> &'a [u32]
     requires { ⌜ (i + 1 < length (now starts)) × (getD (now starts) i 0 ≤ getD (now starts) (i + 1) 0) × (getD (now starts) (i + 1) 0 ≤ length (now picks)) ⌝ }
-    ensures { λ r. ⌜ now r ≡ pickList (now (starts .entry)) (now (picks .entry)) i ⌝ }
+    ensures { λ r. ⌜ now r ≡ pickList (old starts) (old picks) i ⌝ }
 {
-    let a = wide(starts[i]);
-    let b = wide(starts[i + 1]);
+    let a = base::wide(starts[i]);
+    let b = base::wide(starts[i + 1]);
     &picks[a..b]
 }

@@ -9,24 +9,25 @@ use lib.ListN.{length, set}
 use lib.Ieee.{Float}
 use Rattle.cell.specs.declared.Cell.{Cell}
 use Rattle.cell.specs.Cell.{wrap, pointAt, finitePoint}
-use Rattle.cell.specs.Tables.{over}
-use Rattle.cell.proofs.Tables.{Filling, filling-first, filling-last, placed-zero}
-use Rattle.points.specs.Points.{before, wrapFiniteFrom, finiteFrom, treeWaters, finiteWaters}
-use Rattle.points.proofs.Wrapping.{filling-point}
+use Rattle.base.proofs.Tests.{bit-le}
+use Rattle.base.specs.Tables.{over}
+use Rattle.base.proofs.Filling.{Filling, filling-first, filling-last, filling-three}
+use Rattle.base.proofs.Placing.{placed-zero}
+use Rattle.points.specs.Points.{pointBefore, wrapFiniteFrom, finiteCount, treeWaters, finiteWaters}
 
-finite-few : (ws : List Float) (n i : ℕ) → finiteFrom ws n i ≤ n
-unfolding finiteFrom
+finite-few : (ws : List Float) (n i : ℕ) → finiteCount ws n i ≤ n
+unfolding finiteCount
 finite-few ws zero i = omega arith
 finite-few ws (suc n) i = by-test (finitePoint (pointAt ws i)) (finite-few ws n (i + 1))
   where
-    by-test : (b : Bool) → finiteFrom ws n (i + 1) ≤ n → cond b 1 0 + finiteFrom ws n (i + 1) ≤ suc n
+    by-test : (b : Bool) → finiteCount ws n (i + 1) ≤ n → cond b 1 0 + finiteCount ws n (i + 1) ≤ suc n
     by-test true h = omega arith
     by-test false h = omega arith
 
 module _ (c : Cell) (ws : List Float) where
   -- three floats for each finite water
-  from-length : (n i : ℕ) → length (wrapFiniteFrom c ws n i) ≡ finiteFrom ws n i * 3
-  unfolding wrapFiniteFrom finiteFrom
+  from-length : (n i : ℕ) → length (wrapFiniteFrom c ws n i) ≡ finiteCount ws n i * 3
+  unfolding wrapFiniteFrom finiteCount
   from-length zero i = refl
   from-length (suc n) i = by-test (finitePoint (pointAt ws i)) (from-length n (i + 1))
     where
@@ -34,8 +35,8 @@ module _ (c : Cell) (ws : List Float) where
       rest = wrapFiniteFrom c ws n (i + 1)
 
       by-test :
-          (b : Bool) → length rest ≡ finiteFrom ws n (i + 1) * 3 →
-          length (cond b (before (wrap c (pointAt ws i)) rest) rest) ≡ (cond b 1 0 + finiteFrom ws n (i + 1)) * 3
+          (b : Bool) → length rest ≡ finiteCount ws n (i + 1) * 3 →
+          length (cond b (pointBefore (wrap c (pointAt ws i)) rest) rest) ≡ (cond b 1 0 + finiteCount ws n (i + 1)) * 3
       by-test true h = omega arith
       by-test false h = omega arith
 
@@ -55,7 +56,7 @@ module _ (c : Cell) (ws : List Float) where
   unfolding later treeWaters
   later-first = rw sub-zero
 
-  later-finite : (k : ℕ) → k < length ws / 3 → finitePoint (pointAt ws k) ≡ true → later k ≡ before (wrap c (pointAt ws k)) (later (k + 1))
+  later-finite : (k : ℕ) → k < length ws / 3 → finitePoint (pointAt ws k) ≡ true → later k ≡ pointBefore (wrap c (pointAt ws k)) (later (k + 1))
   unfolding later wrapFiniteFrom
   later-finite k h f =
       let more : length ws / 3 - k ≡ suc (length ws / 3 - (k + 1)) = omega arith in
@@ -77,7 +78,7 @@ module _ (c : Cell) (ws : List Float) where
 pub record Counting (ws : List Float) (k m : ℕ) : Type 0 where
   pub within : k ≤ length ws / 3
   pub few : m ≤ k
-  pub total : m + finiteFrom ws (length ws / 3 - k) k ≡ finiteWaters ws
+  pub total : m + finiteCount ws (length ws / 3 - k) k ≡ finiteWaters ws
 
 module _ {ws : List Float} where
   pub counting-first : Counting ws 0 0
@@ -86,16 +87,11 @@ module _ {ws : List Float} where
 
   -- water k is finite, or it is not
   counting-next : {k m : ℕ} (b : Bool) → k < length ws / 3 → finitePoint (pointAt ws k) ≡ b → Counting ws k m → Counting ws (k + 1) (m + cond b 1 0)
-  unfolding finiteFrom
+  unfolding finiteCount
   counting-next {k} {m} b h f p =
       let more : length ws / 3 - k ≡ suc (length ws / 3 - (k + 1)) = omega arith in
-      let total : m + (cond b 1 0 + finiteFrom ws (length ws / 3 - (k + 1)) (k + 1)) ≡ finiteWaters ws = rw (more, f) at (p .total) in
-      let one : cond b 1 0 ≤ 1 = at-most b in
-      record { within = omega arith; few = omega (arith, p .few); total = omega arith }
-    where
-      at-most : (b : Bool) → cond b 1 0 ≤ 1
-      at-most true = omega arith
-      at-most false = omega arith
+      let total : m + (cond b 1 0 + finiteCount ws (length ws / 3 - (k + 1)) (k + 1)) ≡ finiteWaters ws = rw (more, f) at (p .total) in
+      record { within = omega arith; few = omega (arith, p .few, bit-le b); total = omega arith }
 
   pub counting-finite : {k m : ℕ} → k < length ws / 3 → finitePoint (pointAt ws k) ≡ true → Counting ws k m → Counting ws (k + 1) (m + 1)
   counting-finite h f p = counting-next true h f p
@@ -104,7 +100,7 @@ module _ {ws : List Float} where
   counting-other {m = m} h f p = rw (add-zero m) at (counting-next false h f p)
 
   pub counting-last : {k m : ℕ} → length ws / 3 ≤ k → Counting ws k m → m ≡ finiteWaters ws
-  unfolding finiteFrom
+  unfolding finiteCount
   counting-last {k} {m} h p =
       let none : length ws / 3 - k ≡ 0 = omega arith in
       let total : m + 0 ≡ finiteWaters ws = rw none at (p .total) in
@@ -129,7 +125,7 @@ module _ {c : Cell} {ws out₀ : List Float} where
       let at : (m + 1) * 3 ≡ m * 3 + 3 = omega arith in
       record {
         counting = counting-finite h f (z .counting);
-        filling = rw at (filling-point (wrap c (pointAt ws k)) (rw (later-finite c ws k h f) at (z .filling)));
+        filling = rw at (filling-three (rw (later-finite c ws k h f) at (z .filling)));
       }
 
   pub writing-other : {k m : ℕ} {out : List Float} → k < length ws / 3 → finitePoint (pointAt ws k) ≡ false → Writing c ws out₀ k m out → Writing c ws out₀ (k + 1) m out

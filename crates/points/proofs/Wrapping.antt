@@ -7,23 +7,15 @@ use native.Mathlib.Omega.{arith}
 use lib.ListN.{length, getD, set, drop, List·getD-append}
 use lib.Seq.{drop-set-lt, drop-drop, getD-drop, drop-append-seam}
 use lib.Ieee.{Float, nan}
-use Rattle.cell.specs.declared.Vec3.{Vec3}
+use Rattle.pick_lists.specs.Input.{Input}
 use Rattle.cell.specs.declared.Cell.{Cell}
 use Rattle.cell.specs.Cell.{wrap, pointAt}
-use Rattle.cell.specs.Tables.{over}
-use Rattle.cell.proofs.Tables.{Filling, filling-first, filling-next, filling-last, placed-zero}
-use Rattle.pick_lists.specs.Sound.{copiesIn}
+use Rattle.base.specs.Tables.{over}
+use Rattle.base.proofs.Filling.{Filling, filling-first, filling-three, filling-last}
+use Rattle.base.proofs.Placing.{placed-zero}
+use Rattle.pick_lists.specs.Sound.{copies}
 use Rattle.centers.specs.Centers.{centersOf}
-use Rattle.points.specs.Points.{before, wrapFrom, treeCenters}
-
--- a point is written, entry by entry
-pub filling-point :
-    {from end : ℕ} {all t₀ rest t : List Float} (p : Vec3) → Filling from all t₀ end (before p rest) t →
-    Filling from all t₀ (end + 3) rest (set (set (set t end (p .x)) (end + 1) (p .y)) (end + 2) (p .z))
-filling-point {end = end} p z =
-    let two : end + 2 ≡ end + 1 + 1 = omega arith in
-    let three : end + 3 ≡ end + 1 + 1 + 1 = omega arith in
-    rw (two, three) (filling-next (filling-next (filling-next z)))
+use Rattle.points.specs.Points.{pointBefore, wrapFrom, treeCenters}
 
 pub wrap-length : (c : Cell) (xs : List Float) (n i : ℕ) → length (wrapFrom c xs n i) ≡ n * 3
 unfolding wrapFrom
@@ -31,9 +23,9 @@ wrap-length c xs zero i = refl
 wrap-length c xs (suc n) i = omega (arith, wrap-length c xs n (i + 1))
 
 -- three floats for each copy
-pub centers-size : (c : Cell) (solutes : List Float) (starts picks : List ℕ) → length (treeCenters c solutes starts picks) ≡ copiesIn starts * 3
+pub centers-size : (f : Input) → length (treeCenters f) ≡ copies (f .starts) * 3
 unfolding treeCenters
-centers-size c solutes starts picks = wrap-length c (centersOf c solutes starts picks) (copiesIn starts) 0
+centers-size f = wrap-length (f .cell) (centersOf f) (copies (f .starts)) 0
 
 -- n points of the list xs₀ are to be wrapped; those before i are, in the list xs
 pub record Wrapping (c : Cell) (n : ℕ) (xs₀ : List Float) (i : ℕ) (xs : List Float) : Type 0 where
@@ -68,10 +60,10 @@ module _ {c : Cell} {n : ℕ} {xs₀ : List Float} where
       let same : wrap c (pointAt xs₀ i) ≡ p = ap (wrap c) (sym (point-ahead xs xs₀ i (w .ahead))) in
       let more : n - i ≡ suc (n - (i + 1)) = omega arith in
       let at : (i + 1) * 3 ≡ i * 3 + 3 = omega arith in
-      let next : Filling 0 (wrapFrom c xs₀ n 0) xs₀ (i * 3) (before p (wrapFrom c xs₀ (n - (i + 1)) (i + 1))) xs = rw (more, same) at (w .filling) in
+      let next : Filling 0 (wrapFrom c xs₀ n 0) xs₀ (i * 3) (pointBefore p (wrapFrom c xs₀ (n - (i + 1)) (i + 1))) xs = rw (more, same) at (w .filling) in
       record {
         within = omega arith;
-        filling = rw at (filling-point p next);
+        filling = rw at (filling-three next);
         ahead =
             rw at
             (drop-set-lt (i * 3 + 3) (set (set xs (i * 3) (p .x)) (i * 3 + 1) (p .y)) (i * 3 + 2) (p .z) (omega arith)

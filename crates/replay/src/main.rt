@@ -7,6 +7,7 @@ use libc::STDIN_FILENO;
 use libc::STDOUT_FILENO;
 ghost use Prim.Native.Nat.{_+_, _^_, _≤_, _<_};
 ghost use lib.ListN.{length};
+ghost use Rattle.base.specs.Entry.{old};
 
 fn text(s: &[u8]) {
     io::write_all(STDOUT_FILENO, s);
@@ -76,7 +77,7 @@ const CUT: Replayed = Replayed {
 
 // The first record of the rest of the file.
 fn record(rest: &[u8]) -> Replayed
-    ensures { λ r. ⌜ r .used ≤ length (now (rest .entry)) ⌝ }
+    ensures { λ r. ⌜ r .used ≤ length (old rest) ⌝ }
 {
     if rest.len() < 4 {
         return CUT;

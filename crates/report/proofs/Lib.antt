@@ -2,7 +2,7 @@
 pub mod NodeBoxes
 -- Nodes read back from the node tables of a tree are its nodes.
 pub mod ReadBack
--- What Report finds in the tables that Tree filled.
+-- What Report finds in the tables that Tree filled, and what it answers and leaves.
 pub mod ReportOutcomes
 -- The boxes of a tree stay within the cell's bounds.
 pub mod BoxBounds

@@ -9,7 +9,7 @@ use lib.Ieee.{Float}
 use Rattle.bounds.specs.declared.OctreeBounds.{OctreeBounds}
 use Rattle.bounds.specs.Bounds.{boxBetween, childOf}
 use Rattle.octants.specs.Octants.{octantPoints}
-use Rattle.division.specs.Split.{splits}
+use Rattle.division.specs.Split.{splits, maxDepth}
 use Rattle.nodes.specs.Nodes.{Node}
 use Rattle.octree.specs.Tree.{Builder, none, whereSome, childrenFrom, subtree, treeOf, pointNumbers}
 
@@ -59,7 +59,7 @@ module _ (P : OctreeBounds → Type 0) (down : (b : OctreeBounds) (o : ℕ) → 
 
   pub tree-boxed : (b : OctreeBounds) → P b → Boxed P (treeOf b C W .nodes)
   unfolding treeOf
-  tree-boxed b p = where-keeps (subtree C W 14) (subtree-keeps 14) 0 0 0 b (pointNumbers C) (pointNumbers W) p
+  tree-boxed b p = where-keeps (subtree C W maxDepth) (subtree-keeps maxDepth) 0 0 0 b (pointNumbers C) (pointNumbers W) p
 
 -- ---- every box is the one between its corners
 abbrev pub Between : OctreeBounds → Type 0

@@ -8,7 +8,7 @@ use lib.ListN.{length, getD, drop}
 use lib.Seq.{getD-drop, drop-drop}
 use lib.Ieee.{Float, nan}
 use Rattle.cell.specs.Cell.{pointAt}
-use Rattle.cell.specs.Tables.{over}
+use Rattle.base.specs.Tables.{over}
 use Rattle.bounds.specs.Bounds.{boxBetween}
 use Rattle.nodes.specs.Nodes.{Node, recordOf, cornersOf, recordsOf, boxesOf}
 use Rattle.leaf_table.specs.Inner.{nodeAt, nodesFrom}

@@ -2,13 +2,18 @@
 // what Tree keeps on its stack.
 ghost use mathlib.Core.Path.{_≡_};
 ghost use mathlib.Core.Bool.{true};
-ghost use Prim.Native.Nat.{_≤_};
+ghost use mathlib.Core.List.{[], _∷_};
+ghost use Prim.Native.Nat.{_≤_, _*_};
 ghost use lib.ListN.{length};
-ghost use Rattle.pick_lists.specs.Sound.{soundLists, copiesIn};
-ghost use Rattle.octree.specs.Tree.{treeRefusal};
+ghost use Rattle.base.specs.Entry.{old};
+ghost use Rattle.base.specs.Limits.{maxAtoms};
+ghost use Rattle.base.specs.Refusals.{firstRefusal};
+ghost use Rattle.pick_lists.specs.Sound.{soundLists, copies};
+ghost use Rattle.pick_lists.specs.Input.{given};
+ghost use Rattle.octree.specs.Tree.{roomRefusal, treeTables};
 ghost use Rattle.points.specs.Points.{finiteWaters};
-ghost use Rattle.tree.specs.Tree.{frameTree, centerOrderAfter, waterOrderAfter, recordsAfter, boxesAfter};
-ghost use Rattle.report.specs.Report.{reportRoom, reportRefusal, reportAnswer, reportNumber, leavesAfter};
+ghost use Rattle.tree.specs.Tree.{frameTree, inputAfter};
+ghost use Rattle.report.specs.Report.{reportRoom, answerBy, reportAnswer, reportNumber, reportAfter, leavesBy, leavesAfter};
 use cell::Cell;
 use octree::Built;
 
@@ -33,17 +38,16 @@ pub fn report_of(
     leaves: &mut [u32],
 ) -> Reported
     requires { ⌜ soundLists (now solutes) (now starts) (now picks) ≡ true ⌝ }
-    requires { ⌜ length (now waters) ≤ 196608 ⌝ }
-    requires { ⌜ (copiesIn (now starts) ≤ length (now «center_order»)) × (finiteWaters (now waters) ≤ length (now «water_order»)) ⌝ }
-    ensures answer { λ r. ⌜ r ≡ reportAnswer (treeRefusal (reportRoom (now (records .entry)) (now (boxes .entry)) (now (leaves .entry))) (frameTree cell (now (solutes .entry)) (now (waters .entry)) (now (starts .entry)) (now (picks .entry)))) ((frameTree cell (now (solutes .entry)) (now (waters .entry)) (now (starts .entry)) (now (picks .entry))) .nodes) ⌝ }
-    ensures order { λ r. ⌜ now («center_order» .exit) ≡ centerOrderAfter (reportNumber r) (frameTree cell (now (solutes .entry)) (now (waters .entry)) (now (starts .entry)) (now (picks .entry))) (copiesIn (now (starts .entry))) (now («center_order» .entry)) ⌝ }
-    ensures water { λ r. ⌜ now («water_order» .exit) ≡ waterOrderAfter (reportNumber r) (frameTree cell (now (solutes .entry)) (now (waters .entry)) (now (starts .entry)) (now (picks .entry))) (finiteWaters (now (waters .entry))) (now («water_order» .entry)) ⌝ }
-    ensures table { λ r. ⌜ now (records .exit) ≡ recordsAfter (reportNumber r) (frameTree cell (now (solutes .entry)) (now (waters .entry)) (now (starts .entry)) (now (picks .entry))) (now (records .entry)) ⌝ }
-    ensures corners { λ r. ⌜ now (boxes .exit) ≡ boxesAfter (reportNumber r) (frameTree cell (now (solutes .entry)) (now (waters .entry)) (now (starts .entry)) (now (picks .entry))) (now (boxes .entry)) ⌝ }
-    ensures reported { λ r. ⌜ now (leaves .exit) ≡ leavesAfter (reportNumber r) cell (now (waters .entry)) (now (starts .entry)) ((frameTree cell (now (solutes .entry)) (now (waters .entry)) (now (starts .entry)) (now (picks .entry))) .nodes) (now (leaves .entry)) ⌝ }
+    requires { ⌜ length (now waters) ≤ maxAtoms * 3 ⌝ }
+    requires { ⌜ (copies (now starts) ≤ length (now «center_order»)) × (finiteWaters (now waters) ≤ length (now «water_order»)) ⌝ }
+    ensures answer { λ r. ⌜ r ≡ answerBy (firstRefusal (roomRefusal (reportRoom (treeTables (old «center_order») (old «water_order») (old records) (old boxes)) (old leaves)) (frameTree (given cell (old solutes) (old waters) (old starts) (old picks))) ∷ [])) (given cell (old solutes) (old waters) (old starts) (old picks)) ⌝ }
+    ensures after { λ r. ⌜ treeTables (now («center_order» .exit)) (now («water_order» .exit)) (now (records .exit)) (now (boxes .exit))
+        ≡ inputAfter (reportNumber r) (given cell (old solutes) (old waters) (old starts) (old picks)) (treeTables (old «center_order») (old «water_order») (old records) (old boxes)) ⌝ }
+    ensures reported { λ r. ⌜ now (leaves .exit) ≡ leavesBy (reportNumber r) (given cell (old solutes) (old waters) (old starts) (old picks)) (old leaves) ⌝ }
 {
     let mut wrapped = points::water_room();
     let m = points::put_waters(cell, waters, &mut wrapped);
+    // The leaf table counts as a third node table for 13.
     let limit = leaves.len() / 8;
     let Built::Nodes(n, depth) = tree::tree_of(
         cell,
@@ -58,9 +62,11 @@ pub fn report_of(
         boxes,
         limit,
     ) else {
+        // 13: the builder has reset the other tables.
         nodes::clear_words(leaves);
         return Reported::Refused(13);
     };
+    // The waters are those of the tree, wrapped and finite.
     let density = leaf::density(cell, m);
     let reference = leaf::reference_volume(cell, starts.len() - 1);
     let counts = leaf_table::put_leaves(
@@ -90,12 +96,10 @@ pub fn report(
     boxes: &mut [f32],
     leaves: &mut [u32],
 ) -> Reported
-    ensures answer { λ r. ⌜ r ≡ reportAnswer (reportRefusal cell (now (solutes .entry)) (now (waters .entry)) (now (starts .entry)) (now (picks .entry)) (now («center_order» .entry)) (now («water_order» .entry)) (now (records .entry)) (now (boxes .entry)) (now (leaves .entry))) ((frameTree cell (now (solutes .entry)) (now (waters .entry)) (now (starts .entry)) (now (picks .entry))) .nodes) ⌝ }
-    ensures order { λ r. ⌜ now («center_order» .exit) ≡ centerOrderAfter (reportNumber r) (frameTree cell (now (solutes .entry)) (now (waters .entry)) (now (starts .entry)) (now (picks .entry))) (copiesIn (now (starts .entry))) (now («center_order» .entry)) ⌝ }
-    ensures water { λ r. ⌜ now («water_order» .exit) ≡ waterOrderAfter (reportNumber r) (frameTree cell (now (solutes .entry)) (now (waters .entry)) (now (starts .entry)) (now (picks .entry))) (finiteWaters (now (waters .entry))) (now («water_order» .entry)) ⌝ }
-    ensures table { λ r. ⌜ now (records .exit) ≡ recordsAfter (reportNumber r) (frameTree cell (now (solutes .entry)) (now (waters .entry)) (now (starts .entry)) (now (picks .entry))) (now (records .entry)) ⌝ }
-    ensures corners { λ r. ⌜ now (boxes .exit) ≡ boxesAfter (reportNumber r) (frameTree cell (now (solutes .entry)) (now (waters .entry)) (now (starts .entry)) (now (picks .entry))) (now (boxes .entry)) ⌝ }
-    ensures reported { λ r. ⌜ now (leaves .exit) ≡ leavesAfter (reportNumber r) cell (now (waters .entry)) (now (starts .entry)) ((frameTree cell (now (solutes .entry)) (now (waters .entry)) (now (starts .entry)) (now (picks .entry))) .nodes) (now (leaves .entry)) ⌝ }
+    ensures answer { λ r. ⌜ r ≡ reportAnswer (given cell (old solutes) (old waters) (old starts) (old picks)) (treeTables (old «center_order») (old «water_order») (old records) (old boxes)) (old leaves) ⌝ }
+    ensures after { λ r. ⌜ treeTables (now («center_order» .exit)) (now («water_order» .exit)) (now (records .exit)) (now (boxes .exit))
+        ≡ reportAfter (given cell (old solutes) (old waters) (old starts) (old picks)) (treeTables (old «center_order») (old «water_order») (old records) (old boxes)) (old leaves) ⌝ }
+    ensures reported { λ r. ⌜ now (leaves .exit) ≡ leavesAfter (given cell (old solutes) (old waters) (old starts) (old picks)) (treeTables (old «center_order») (old «water_order») (old records) (old boxes)) (old leaves) ⌝ }
 {
     let first = tree::refusal(
         cell,

@@ -9,7 +9,8 @@ use numbers::class::to_bits64;
 ghost use mathlib.Core.Path.{_≡_};
 ghost use Prim.Native.Nat.{suc, _*_, _/_, _%_, _^_, _<_, _≤_};
 ghost use lib.Ieee.{binary32, binary64, ofBits, toBits};
-ghost use Rattle.floats.specs.Root.{Rooted, rootDrop, rootDigits, sqrtOf};
+ghost use Rattle.floats.specs.Inner.{Rooted};
+ghost use Rattle.floats.specs.Root.{rootDrop, rootDigits, sqrtOf};
 
 // The whole root of m * 4^n / 2^54, where m has at most 54 binary digits: a digit of the root a turn.
 // `rem` is what the square of `r` leaves of the digits of m taken so far, two at a time from the top.

@@ -2,15 +2,10 @@
 -- Definitions only. Assumes nothing.
 use mathlib.Core.List.{List, [], _∷_}
 use Prim.Native.Nat.{ℕ, zero, suc}
-use lib.Ieee.{Float}
-use Rattle.cell.specs.declared.Cell.{Cell}
-use Rattle.pick_lists.specs.Sound.{copiesIn}
-use Rattle.clusters.specs.Answers.{openLeaves}
-use Rattle.clusters.specs.Order.{Input, Call, row, after}
-
--- cell, atoms and pick lists
-abbrev pub given : Cell → List Float → List ℕ → List ℕ → Input
-given c xs starts picks = record { cell = c; solutes = xs; starts = starts; picks = picks }
+use Rattle.pick_lists.specs.Sound.{copies}
+use Rattle.pick_lists.specs.Input.{Input}
+use Rattle.clusters.specs.Answers.{openAfter}
+use Rattle.clusters.specs.Order.{Call, row, after}
 
 -- k rows, from row i on
 unfoldable pub rising : ℕ → ℕ → List Call
@@ -18,6 +13,6 @@ rising zero i = []
 rising (suc k) i = row i ∷ rising k (suc i)
 
 -- the table t after Open and every row
-unfoldable pub scanned : Cell → List Float → List ℕ → List ℕ → List ℕ → List ℕ
-unfolding openLeaves rising after
-scanned c xs starts picks t = after (given c xs starts picks) (openLeaves (copiesIn starts) t) (rising (copiesIn starts) 0)
+unfoldable pub scanned : Input → List ℕ → List ℕ
+unfolding openAfter rising after
+scanned f t = after f (openAfter (copies (f .starts)) t) (rising (copies (f .starts)) 0)

@@ -5,16 +5,18 @@ ghost use mathlib.Core.Bool.{true};
 ghost use mathlib.Core.List.{[]};
 ghost use Prim.Native.Nat.{_*_, _<_, _≤_};
 ghost use lib.ListN.{length};
+ghost use Rattle.base.specs.Entry.{old};
 ghost use Rattle.cell.specs.Cell.{extentOf};
-ghost use Rattle.cell.specs.Refusals.{firstRefusal};
-ghost use Rattle.pick_lists.specs.Sound.{copiesIn};
-ghost use Rattle.pick_lists.specs.Input.{inputRefusals};
+ghost use Rattle.base.specs.Refusals.{firstRefusal};
+ghost use Rattle.pick_lists.specs.Sound.{copies};
+ghost use Rattle.pick_lists.specs.Input.{inputRefusals, given};
 ghost use Rattle.touch.specs.Touch.{copiesTouch};
-ghost use Rattle.gates.specs.Gates.{gatesOf};
-ghost use Rattle.box_table.specs.BoxTable.{Boxes};
+ghost use Rattle.gates.specs.Inner.{gatesOf};
+ghost use Rattle.span_table.specs.Inner.{Spans};
 ghost use Rattle.cluster_table.specs.Table.{words, soundTable};
 ghost use Rattle.clusters.specs.Answers.{rowTable};
 ghost use Rattle.scan.specs.Scan.{scanned};
+use base::MAX_COPIES;
 use cell::Cell;
 use gates::Gates;
 
@@ -30,17 +32,18 @@ fn scan_boxed(
     table: &mut [u32],
     i: usize,
 )
-    requires { ⌜ firstRefusal (inputRefusals cell (now solutes) [] (now starts) (now picks)) ≡ 0 ⌝ }
-    requires { ⌜ (words (copiesIn (now starts)) ≤ length (now table)) × (soundTable (copiesIn (now starts)) (now table) ≡ true) × (i < copiesIn (now starts)) ⌝ }
-    requires { ⌜ (g ≡ gatesOf (extentOf cell)) × (6 * copiesIn (now starts) ≤ length (now room)) × (copiesIn (now starts) ≤ length (now flags)) ⌝ }
-    requires { ⌜ Boxes (now solutes) (now starts) (now picks) (now room) ⌝ }
-    ensures { λ _. ⌜ now (table .exit) ≡ rowTable (copiesTouch cell (now (solutes .entry)) (now (starts .entry)) (now (picks .entry))) (copiesIn (now (starts .entry))) i (now (table .entry)) ⌝ }
+    requires { ⌜ firstRefusal (inputRefusals (given cell (now solutes) [] (now starts) (now picks))) ≡ 0 ⌝ }
+    requires { ⌜ (words (copies (now starts)) ≤ length (now table)) × (soundTable (copies (now starts)) (now table) ≡ true) × (i < copies (now starts)) ⌝ }
+    requires { ⌜ (g ≡ gatesOf (extentOf cell)) × (6 * copies (now starts) ≤ length (now room)) × (copies (now starts) ≤ length (now flags)) ⌝ }
+    requires { ⌜ Spans (now solutes) (now starts) (now picks) (now room) ⌝ }
+    ensures { λ _. ⌜ now (table .exit) ≡ rowTable (copiesTouch (given cell (old solutes) [] (old starts) (old picks))) (copies (old starts)) i (old table) ⌝ }
 {
     let n = starts.len() - 1;
-    box_table::mark_apart(g, room, flags, n, i);
+    // Flags of copies up to i are of an earlier row, and not read.
+    span_table::mark_apart(g, room, flags, n, i);
     let mut k = i + 1;
     while k < n {
-        if box_table::marked_touch(cell, g, solutes, starts, picks, room, flags, i, k) {
+        if span_table::marked_touch(cell, g, solutes, starts, picks, room, flags, i, k) {
             cluster_table::add_contact(table, n, i, k);
         }
         k += 1;
@@ -59,11 +62,11 @@ fn scan_rows(
     flags: &mut [u32],
     table: &mut [u32],
 )
-    requires { ⌜ firstRefusal (inputRefusals cell (now solutes) [] (now starts) (now picks)) ≡ 0 ⌝ }
-    requires { ⌜ words (copiesIn (now starts)) ≤ length (now table) ⌝ }
-    requires { ⌜ (g ≡ gatesOf (extentOf cell)) × (6 * copiesIn (now starts) ≤ length (now room)) × (copiesIn (now starts) ≤ length (now flags)) ⌝ }
-    requires { ⌜ Boxes (now solutes) (now starts) (now picks) (now room) ⌝ }
-    ensures { λ _. ⌜ now (table .exit) ≡ scanned cell (now (solutes .entry)) (now (starts .entry)) (now (picks .entry)) (now (table .entry)) ⌝ }
+    requires { ⌜ firstRefusal (inputRefusals (given cell (now solutes) [] (now starts) (now picks))) ≡ 0 ⌝ }
+    requires { ⌜ words (copies (now starts)) ≤ length (now table) ⌝ }
+    requires { ⌜ (g ≡ gatesOf (extentOf cell)) × (6 * copies (now starts) ≤ length (now room)) × (copies (now starts) ≤ length (now flags)) ⌝ }
+    requires { ⌜ Spans (now solutes) (now starts) (now picks) (now room) ⌝ }
+    ensures { λ _. ⌜ now (table .exit) ≡ scanned (given cell (old solutes) [] (old starts) (old picks)) (old table) ⌝ }
 {
     let copies = starts.len() - 1;
     cluster_table::open_table(table, copies);
@@ -75,23 +78,24 @@ fn scan_rows(
 }
 
 // Long local arrays (docs/DECISIONS.md, 'The gate').
-fn box_room() -> [f32; 24576] {
-    [0f32; 24576]
+fn box_room() -> [f32; MAX_COPIES * 6] {
+    [0f32; MAX_COPIES * 6]
 }
 
-fn flag_room() -> [u32; 4096] {
-    [0u32; 4096]
+fn flag_room() -> [u32; MAX_COPIES] {
+    [0u32; MAX_COPIES]
 }
 
 // Opens the table and scans every row in rising order, for input that nothing refuses: the core of the whole frame. The box table is made once.
 pub fn scan_all(cell: Cell, solutes: &[f32], starts: &[u32], picks: &[u32], table: &mut [u32])
-    requires { ⌜ firstRefusal (inputRefusals cell (now solutes) [] (now starts) (now picks)) ≡ 0 ⌝ }
-    requires { ⌜ words (copiesIn (now starts)) ≤ length (now table) ⌝ }
-    ensures { λ _. ⌜ now (table .exit) ≡ scanned cell (now (solutes .entry)) (now (starts .entry)) (now (picks .entry)) (now (table .entry)) ⌝ }
+    requires { ⌜ firstRefusal (inputRefusals (given cell (now solutes) [] (now starts) (now picks))) ≡ 0 ⌝ }
+    requires { ⌜ words (copies (now starts)) ≤ length (now table) ⌝ }
+    ensures { λ _. ⌜ now (table .exit) ≡ scanned (given cell (old solutes) [] (old starts) (old picks)) (old table) ⌝ }
 {
+    // What the arrays hold at first is never read.
     let mut room = box_room();
     let mut flags = flag_room();
-    box_table::fill_boxes(solutes, starts, picks, &mut room);
+    span_table::fill_spans(solutes, starts, picks, &mut room);
     scan_rows(
         cell,
         gates::gates_of(cell),

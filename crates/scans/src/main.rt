@@ -1,7 +1,7 @@
 // Scans copies in groups of four, 4 angstrom apart, with 8 angstrom between the groups, in a cell of 32,768: 4,096 copies with the rows
 // in rising order, and 64 copies in three orders with refused calls in between. Prints the fractions beside the expected ones,
 // 3 / (n - 1), n / n and (3 n / 4) / (n (n - 1) / 2), each divided once in f32 by Python's struct and float.
-use cell::Answer;
+use base::Answer;
 use cell::Cell;
 use cell::Vec3;
 use clusters::Closing;

@@ -8,7 +8,7 @@ use native.Mathlib.Numerals.{add-one}
 use native.Mathlib.Omega.{arith}
 use lib.ListN.{length, length-append}
 use lib.Ieee.{Float}
-use Rattle.selection.specs.Selection.{picked, keep, chunks, copiesFrom, keptCopies, joined}
+use Rattle.selection.specs.Selection.{picked, keep, chunks, copiesFrom, keptCopies, picksOf}
 
 -- ---- whole chunks
 pub chunks-none : (per atoms : ℕ) → atoms < per → chunks per atoms ≡ 0
@@ -30,8 +30,8 @@ keep-none : (p : List ℕ) (cs : List (List ℕ)) → length p ≤ 0 → keep p 
 keep-none [] cs h = refl
 keep-none (a ∷ p) cs h = absurd (omega arith)
 
-joined-keep : (p : List ℕ) (cs : List (List ℕ)) → joined (keep p cs) ≡ p ++ joined cs
-unfolding joined
+joined-keep : (p : List ℕ) (cs : List (List ℕ)) → picksOf (keep p cs) ≡ p ++ picksOf cs
+unfolding picksOf
 joined-keep [] cs = refl
 joined-keep (a ∷ p) cs = refl
 
@@ -58,8 +58,8 @@ module _ (xs : List Float) (per : ℕ) (is : List ℕ) where
         let n : length xs / 3 - base - per ≡ length xs / 3 - (base + per) = omega arith in
         rw (chunks-more per (length xs / 3 - base) some whole, n)
 
-    pub left-joined : length (joined (copiesLeft base)) ≡ length (picked xs per is base) + length (joined (copiesLeft (base + per)))
-    left-joined = rw (left-more, joined-keep) (length-append (picked xs per is base) (joined (copiesLeft (base + per))))
+    pub left-joined : length (picksOf (copiesLeft base)) ≡ length (picked xs per is base) + length (picksOf (copiesLeft (base + per)))
+    left-joined = rw (left-more, joined-keep) (length-append (picked xs per is base) (picksOf (copiesLeft (base + per))))
 
     pub left-kept : 0 < length (picked xs per is base) → copiesLeft base ≡ picked xs per is base ∷ copiesLeft (base + per)
     left-kept h = left-more ∙ keep-some (picked xs per is base) (copiesLeft (base + per)) h

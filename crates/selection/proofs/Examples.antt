@@ -7,7 +7,7 @@ use lib.ListN.{replicate}
 use lib.Ieee.{Float, binary32, ofBits}
 use Rattle.cell.specs.Cell.{finitePoint, pointAt}
 use Rattle.pick_lists.specs.Sound.{finiteAtom}
-use Rattle.selection.specs.Selection.{finiteFrom, indexed, picked, copiesFrom, chunks, keptCopies}
+use Rattle.selection.specs.Selection.{finiteAtoms, indexed, picked, copiesFrom, chunks, keptCopies}
 
 abbrev pub atoms : ℕ → List Float
 atoms n = replicate (n * 3) (ofBits binary32 0x3F80_0000)
@@ -23,5 +23,5 @@ pub record Checked : Type 0 where
   pub past-the-copy : keptCopies (atoms 3) 3 (9 ∷ []) ≡ (0 ∷ 1 ∷ 2 ∷ []) ∷ []
 
 pub checked : Checked
-unfolding keptCopies copiesFrom chunks picked indexed finiteFrom finiteAtom finitePoint pointAt ofBits
+unfolding keptCopies copiesFrom chunks picked indexed finiteAtoms finiteAtom finitePoint pointAt ofBits
 checked = record { short-chunk = refl; zero-per-copy = refl; repeated = refl; past-the-copy = refl }

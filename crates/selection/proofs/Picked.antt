@@ -11,9 +11,10 @@ use borrow.Author.Tests.{ltb-true}
 use lib.ListN.{length, getD, drop, drop-of-length-le}
 use lib.Seq.{drop-cons}
 use lib.Ieee.{Float}
-use Rattle.cell.proofs.Tables.{length-none}
+use Rattle.base.specs.Limits.{maxIndices}
+use Rattle.base.proofs.Placing.{length-none}
 use Rattle.pick_lists.specs.Sound.{finiteAtom}
-use Rattle.selection.specs.Selection.{finiteFrom, indexed, orElse, picked}
+use Rattle.selection.specs.Selection.{finiteAtoms, indexed, orElse, picked}
 
 -- ---- by the indices
 module _ (xs : List Float) (per base : ℕ) (is : List ℕ) (j : ℕ) where
@@ -40,27 +41,27 @@ module _ (xs : List Float) (per base : ℕ) (is : List ℕ) (j : ℕ) where
 
 -- ---- all finite atoms
 module _ (xs : List Float) (per base k : ℕ) where
-  finite-more : k < per → finiteFrom xs (per - k) (base + k) ≡ cond (finiteAtom xs (base + k)) ((base + k) ∷ finiteFrom xs (per - (k + 1)) (base + (k + 1))) (finiteFrom xs (per - (k + 1)) (base + (k + 1)))
-  unfolding finiteFrom
+  finite-more : k < per → finiteAtoms xs (per - k) (base + k) ≡ cond (finiteAtom xs (base + k)) ((base + k) ∷ finiteAtoms xs (per - (k + 1)) (base + (k + 1))) (finiteAtoms xs (per - (k + 1)) (base + (k + 1)))
+  unfolding finiteAtoms
   finite-more l =
       let n : per - k ≡ suc (per - (k + 1)) = omega arith in
       let m : base + k + 1 ≡ base + (k + 1) = omega arith in
       rw (n, m)
 
-  pub finite-hit : k < per → finiteAtom xs (base + k) ≡ true → finiteFrom xs (per - k) (base + k) ≡ (base + k) ∷ finiteFrom xs (per - (k + 1)) (base + (k + 1))
+  pub finite-hit : k < per → finiteAtom xs (base + k) ≡ true → finiteAtoms xs (per - k) (base + k) ≡ (base + k) ∷ finiteAtoms xs (per - (k + 1)) (base + (k + 1))
   finite-hit l e = rw (finite-more l, e)
 
-  pub finite-skip : k < per → finiteAtom xs (base + k) ≡ false → finiteFrom xs (per - k) (base + k) ≡ finiteFrom xs (per - (k + 1)) (base + (k + 1))
+  pub finite-skip : k < per → finiteAtom xs (base + k) ≡ false → finiteAtoms xs (per - k) (base + k) ≡ finiteAtoms xs (per - (k + 1)) (base + (k + 1))
   finite-skip l e = rw (finite-more l, e)
 
-  pub finite-none : per ≤ k → finiteFrom xs (per - k) (base + k) ≡ []
-  unfolding finiteFrom
+  pub finite-none : per ≤ k → finiteAtoms xs (per - k) (base + k) ≡ []
+  unfolding finiteAtoms
   finite-none l =
       let n : per - k ≡ 0 = omega arith in
       rw n
 
 -- from the first atom on
-pub finite-all : (xs : List Float) (per base : ℕ) → finiteFrom xs (per - 0) (base + 0) ≡ finiteFrom xs per base
+pub finite-all : (xs : List Float) (per base : ℕ) → finiteAtoms xs (per - 0) (base + 0) ≡ finiteAtoms xs per base
 finite-all xs per base =
     let m : base + 0 ≡ base = omega arith in
     let n : per - 0 ≡ per = omega arith in
@@ -74,9 +75,9 @@ else-first (y ∷ ys) zs h = refl
 module _ (xs : List Float) (per base : ℕ) (is : List ℕ) where
   pub picked-indexed : 0 < length (indexed xs per base is) → picked xs per is base ≡ indexed xs per base is
   unfolding picked
-  picked-indexed h = else-first (indexed xs per base is) (finiteFrom xs per base) h
+  picked-indexed h = else-first (indexed xs per base is) (finiteAtoms xs per base) h
 
-  pub picked-finite : length (indexed xs per base is) ≤ 0 → picked xs per is base ≡ finiteFrom xs per base
+  pub picked-finite : length (indexed xs per base is) ≤ 0 → picked xs per is base ≡ finiteAtoms xs per base
   unfolding picked
   picked-finite h = rw (length-none (indexed xs per base is) h)
 
@@ -90,10 +91,10 @@ unfolding indexed
 indexed-few xs per base [] = omega arith
 indexed-few xs per base (i ∷ is) = cond-few (ltb i per && finiteAtom xs (base + i)) (base + i) (indexed xs per base is) (length is) (indexed-few xs per base is)
 
-pub finite-few : (xs : List Float) (n k : ℕ) → length (finiteFrom xs n k) ≤ n
-unfolding finiteFrom
+pub finite-few : (xs : List Float) (n k : ℕ) → length (finiteAtoms xs n k) ≤ n
+unfolding finiteAtoms
 finite-few xs zero k = omega arith
-finite-few xs (suc n) k = cond-few (finiteAtom xs k) k (finiteFrom xs n (k + 1)) n (finite-few xs n (k + 1))
+finite-few xs (suc n) k = cond-few (finiteAtom xs k) k (finiteAtoms xs n (k + 1)) n (finite-few xs n (k + 1))
 
 else-more : (ys zs : List ℕ) → length ys ≤ length (orElse ys zs)
 else-more [] zs = omega arith
@@ -101,12 +102,12 @@ else-more (y ∷ ys) zs = omega arith
 
 pub indexed-within : (xs : List Float) (per base : ℕ) (is : List ℕ) → length (indexed xs per base is) ≤ length (picked xs per is base)
 unfolding picked
-indexed-within xs per base is = else-more (indexed xs per base is) (finiteFrom xs per base)
+indexed-within xs per base is = else-more (indexed xs per base is) (finiteAtoms xs per base)
 
 else-few : (ys zs : List ℕ) (n : ℕ) → length ys ≤ n → length zs ≤ n → length (orElse ys zs) ≤ n
 else-few [] zs n h k = k
 else-few (y ∷ ys) zs n h k = h
 
-pub picked-few : (xs : List Float) (per base : ℕ) (is : List ℕ) → 0 < per → length is ≤ 256 → length (picked xs per is base) ≤ per * 256
+pub picked-few : (xs : List Float) (per base : ℕ) (is : List ℕ) → 0 < per → length is ≤ maxIndices → length (picked xs per is base) ≤ per * maxIndices
 unfolding picked
-picked-few xs per base is p h = else-few (indexed xs per base is) (finiteFrom xs per base) (per * 256) (omega (arith, indexed-few xs per base is)) (omega (arith, finite-few xs per base))
+picked-few xs per base is p h = else-few (indexed xs per base is) (finiteAtoms xs per base) (per * maxIndices) (omega (arith, indexed-few xs per base is)) (omega (arith, finite-few xs per base))

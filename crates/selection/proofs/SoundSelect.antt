@@ -11,25 +11,25 @@ use lib.ListN.{length, getD, take, drop, length-append}
 use lib.Seq.{take-append-seam, take-at, drop-append-add}
 use lib.Ieee.{Float}
 use borrow.Author.Tests.{lt-ltb, ltb-true, ltb-false}
-use Rattle.frame_limits.specs.Limits.{maxCopies, maxPicks, lengths, counts, coordinates}
-use Rattle.cell.specs.Refusals.{refuse, firstRefusal}
-use Rattle.cell.specs.Tables.{over}
-use Rattle.cell.proofs.FirstRefusal.{first-none}
-use Rattle.pick_lists.specs.Sound.{finiteAtom}
-use Rattle.selection.specs.Selection.{finiteFrom, indexed, orElse, picked, keep, copiesFrom, chunks, keptCopies, joined, startsFrom, startsOf, listRefusals, roomRefusals, selectRefusals, selectRefusal, selectStarts, selectPicks}
-use Rattle.pick_lists.specs.Sound.{rises, allFinite, copiesIn, soundLists}
+use Rattle.base.specs.Limits.{maxCopies, maxPicks}
+use Rattle.frame_limits.specs.Limits.{lengths, counts, coordinates}
+use Rattle.base.specs.Refusals.{refuse, firstRefusal}
+use Rattle.base.specs.Tables.{over}
+use Rattle.base.proofs.FirstRefusal.{first-none}
+use Rattle.pick_lists.specs.Sound.{finiteAtom, rises, allFinite, copies, soundLists}
+use Rattle.selection.specs.Selection.{finiteAtoms, indexed, orElse, picked, keep, copiesFrom, chunks, keptCopies, picksOf, startsFrom, startsOf, listRefusals, roomRefusals, selectRefusals, selectRefusal, selectStarts, selectPicks}
 use Rattle.selection.proofs.SelectRefusals.{both-within}
 use Rattle.pick_lists.proofs.SoundLists.{starts-sound}
 
 -- ---- what is picked of a copy whose atoms are there is finite
 module _ (xs : List Float) where
-  finite-from : (n k : ℕ) → (k + n) * 3 ≤ length xs → allFinite xs (finiteFrom xs n k) ≡ true
-  unfolding allFinite finiteFrom
+  finite-from : (n k : ℕ) → (k + n) * 3 ≤ length xs → allFinite xs (finiteAtoms xs n k) ≡ true
+  unfolding allFinite finiteAtoms
   finite-from zero k h = refl
   finite-from (suc n) k h = by-test (finiteAtom xs k) refl (finite-from n (k + 1) (omega arith))
     where
       rest : List ℕ
-      rest = finiteFrom xs n (k + 1)
+      rest = finiteAtoms xs n (k + 1)
 
       by-test : (b : Bool) → finiteAtom xs k ≡ b → allFinite xs rest ≡ true → allFinite xs (cond b (k ∷ rest) rest) ≡ true
       by-test true e r = rw (lt-ltb (k * 3 + 2) (length xs) (omega arith), e) r
@@ -51,7 +51,7 @@ module _ (xs : List Float) where
 
   finite-picked : (per : ℕ) (is : List ℕ) (base : ℕ) → (base + per) * 3 ≤ length xs → allFinite xs (picked xs per is base) ≡ true
   unfolding picked
-  finite-picked per is base h = either (indexed xs per base is) (finiteFrom xs per base) (finite-indexed per base is h) (finite-from per base h)
+  finite-picked per is base h = either (indexed xs per base is) (finiteAtoms xs per base) (finite-indexed per base is h) (finite-from per base h)
     where
       either : (a b : List ℕ) → allFinite xs a ≡ true → allFinite xs b ≡ true → allFinite xs (orElse a b) ≡ true
       either [] b p q = q
@@ -97,10 +97,10 @@ unfolding startsFrom
 starts-first at [] = refl
 starts-first at (c ∷ cs) = refl
 
-starts-last : (at : ℕ) (cs : List (List ℕ)) → getD (startsFrom at cs) (length cs) 0 ≡ at + length (joined cs)
-unfolding startsFrom joined
+starts-last : (at : ℕ) (cs : List (List ℕ)) → getD (startsFrom at cs) (length cs) 0 ≡ at + length (picksOf cs)
+unfolding startsFrom picksOf
 starts-last at [] = omega arith
-starts-last at (c ∷ cs) = omega (arith, starts-last (at + length c) cs, length-append c (joined cs))
+starts-last at (c ∷ cs) = omega (arith, starts-last (at + length c) cs, length-append c (picksOf cs))
 
 starts-above : (at : ℕ) (cs : List (List ℕ)) (i : ℕ) → i ≤ length cs → at ≤ getD (startsFrom at cs) i 0
 unfolding startsFrom
@@ -118,12 +118,12 @@ starts-rise (more {c} {cs} some f r) at = on cs (starts-rise r (at + length c))
     on [] h = rw (lt-ltb at (at + length c) (omega arith))
     on (d ∷ ds) h = rw (lt-ltb at (at + length c) (omega arith)) h
 
-joined-finite : {xs : List Float} {cs : List (List ℕ)} → Picked xs cs → allFinite xs (joined cs) ≡ true
-unfolding allFinite joined
+joined-finite : {xs : List Float} {cs : List (List ℕ)} → Picked xs cs → allFinite xs (picksOf cs) ≡ true
+unfolding allFinite picksOf
 joined-finite none = refl
 joined-finite {xs} (more {c} {cs} some f r) = on c f (joined-finite r)
   where
-    on : (c : List ℕ) → allFinite xs c ≡ true → allFinite xs (joined cs) ≡ true → allFinite xs (c ++ joined cs) ≡ true
+    on : (c : List ℕ) → allFinite xs c ≡ true → allFinite xs (picksOf cs) ≡ true → allFinite xs (c ++ picksOf cs) ≡ true
     on [] p q = q
     on (a ∷ c) p q =
         let parts = and-eq-true-iff (ltb (a * 3 + 2) (length xs) && finiteAtom xs a) (allFinite xs c) .0 p in
@@ -133,64 +133,64 @@ pub starts-length : (cs : List (List ℕ)) → length (startsOf cs) ≡ length c
 unfolding startsOf
 starts-length cs = rw (starts-number 0 cs, add-one)
 
-pub starts-copies : (cs : List (List ℕ)) → copiesIn (startsOf cs) ≡ length cs
+pub starts-copies : (cs : List (List ℕ)) → copies (startsOf cs) ≡ length cs
 starts-copies cs = omega (arith, starts-length cs)
 
 pub starts-zero : (cs : List (List ℕ)) → getD (startsOf cs) 0 0 ≡ 0
 unfolding startsOf
 starts-zero cs = starts-first 0 cs
 
-pub starts-end : (cs : List (List ℕ)) → getD (startsOf cs) (copiesIn (startsOf cs)) 0 ≡ length (joined cs)
+pub starts-end : (cs : List (List ℕ)) → getD (startsOf cs) (copies (startsOf cs)) 0 ≡ length (picksOf cs)
 unfolding startsOf
-starts-end cs = rw (starts-copies cs) (starts-last 0 cs ∙ zero-add (length (joined cs)))
+starts-end cs = rw (starts-copies cs) (starts-last 0 cs ∙ zero-add (length (picksOf cs)))
 
 -- the picks between a start and the next are the copy's
-cut-list : (at : ℕ) (cs : List (List ℕ)) (i : ℕ) → i < length cs → take (getD (startsFrom at cs) (suc i) 0 - getD (startsFrom at cs) i 0) (drop (getD (startsFrom at cs) i 0 - at) (joined cs)) ≡ getD cs i []
-unfolding startsFrom joined
+cut-list : (at : ℕ) (cs : List (List ℕ)) (i : ℕ) → i < length cs → take (getD (startsFrom at cs) (suc i) 0 - getD (startsFrom at cs) i 0) (drop (getD (startsFrom at cs) i 0 - at) (picksOf cs)) ≡ getD cs i []
+unfolding startsFrom picksOf
 cut-list at [] i h = absurd (omega arith)
 cut-list at (c ∷ cs) zero h =
     let long : getD (startsFrom (at + length c) cs) 0 0 - at ≡ length c = omega (arith, starts-first (at + length c) cs) in
     let here : at - at ≡ 0 = omega arith in
-    rw (long, here) (take-append-seam c (joined cs))
+    rw (long, here) (take-append-seam c (picksOf cs))
 cut-list at (c ∷ cs) (suc i) h =
     let next = at + length c in
     let start = getD (startsFrom next cs) i 0 in
     let past : start - at ≡ length c + (start - next) = omega (arith, starts-above next cs i (omega arith)) in
-    rw (past, drop-append-add c (joined cs) (start - next)) (cut-list next cs i (le-of-suc-le-suc h))
+    rw (past, drop-append-add c (picksOf cs) (start - next)) (cut-list next cs i (le-of-suc-le-suc h))
 
-pub pick-list : (cs : List (List ℕ)) (i : ℕ) → i < length cs → take (getD (startsOf cs) (i + 1) 0 - getD (startsOf cs) i 0) (drop (getD (startsOf cs) i 0) (joined cs)) ≡ getD cs i []
+pub pick-list : (cs : List (List ℕ)) (i : ℕ) → i < length cs → take (getD (startsOf cs) (i + 1) 0 - getD (startsOf cs) i 0) (drop (getD (startsOf cs) i 0) (picksOf cs)) ≡ getD cs i []
 unfolding startsOf
-pick-list cs i h = rw add-one (subst (λ (k : ℕ). take (getD (startsFrom 0 cs) (suc i) 0 - getD (startsFrom 0 cs) i 0) (drop k (joined cs)) ≡ getD cs i []) (sub-zero (getD (startsFrom 0 cs) i 0)) (cut-list 0 cs i h))
+pick-list cs i h = rw add-one (subst (λ (k : ℕ). take (getD (startsFrom 0 cs) (suc i) 0 - getD (startsFrom 0 cs) i 0) (drop k (picksOf cs)) ≡ getD cs i []) (sub-zero (getD (startsFrom 0 cs) i 0)) (cut-list 0 cs i h))
 
 -- ---- what Select writes is sound
-pub select-sound : (solutes : List Float) (per : ℕ) (is : List ℕ) → length (keptCopies solutes per is) ≤ 4096 → length (joined (keptCopies solutes per is)) ≤ 65536 → soundLists solutes (startsOf (keptCopies solutes per is)) (joined (keptCopies solutes per is)) ≡ true
+pub select-sound : (solutes : List Float) (per : ℕ) (is : List ℕ) → length (keptCopies solutes per is) ≤ maxCopies → length (picksOf (keptCopies solutes per is)) ≤ maxPicks → soundLists solutes (startsOf (keptCopies solutes per is)) (picksOf (keptCopies solutes per is)) ≡ true
 unfolding soundLists startsOf
 select-sound solutes per is few short =
     let cs = keptCopies solutes per is in
     let p = kept-picked solutes per is in
-    rw (starts-sound (startsOf cs) (length (joined cs)) (omega (arith, starts-length cs)) (omega (arith, starts-length cs)) (starts-zero cs) (starts-rise p 0) (starts-end cs) short) (joined-finite p)
+    rw (starts-sound (startsOf cs) (length (picksOf cs)) (omega (arith, starts-length cs)) (omega (arith, starts-length cs)) (starts-zero cs) (starts-rise p 0) (starts-end cs) short) (joined-finite p)
 
 -- ---- an accepted Select
 -- what the limits and the tables' room give of the copies cs
 pub record Room (cs : List (List ℕ)) (starts picks : List ℕ) : Type 0 where
   pub few : length cs ≤ maxCopies
-  pub short : length (joined cs) ≤ maxPicks
+  pub short : length (picksOf cs) ≤ maxPicks
   pub starts-fit : length cs + 1 ≤ length starts
-  pub picks-fit : length (joined cs) ≤ length picks
+  pub picks-fit : length (picksOf cs) ≤ length picks
 
-pub room-none : (cs : List (List ℕ)) (starts picks : List ℕ) → firstRefusal (roomRefusals (length cs) (length (joined cs)) (length starts) (length picks)) ≡ 0 → Room cs starts picks
+pub room-none : (cs : List (List ℕ)) (starts picks : List ℕ) → firstRefusal (roomRefusals (length cs) (length (picksOf cs)) (length starts) (length picks)) ≡ 0 → Room cs starts picks
 unfolding roomRefusals
 room-none cs starts picks e =
     let five = refuse 5 (ltb maxCopies (length cs)) in
-    let six = refuse 6 (ltb maxPicks (length (joined cs))) in
-    let seven = refuse 7 (ltb (length starts) (length cs + 1) || ltb (length picks) (length (joined cs))) in
+    let six = refuse 6 (ltb maxPicks (length (picksOf cs))) in
+    let seven = refuse 7 (ltb (length starts) (length cs + 1) || ltb (length picks) (length (picksOf cs))) in
     let n5 = first-none five (six ∷ seven ∷ []) (λ h. omega arith) e in
     let n6 = first-none six (seven ∷ []) (λ h. omega arith) (n5 .1) in
     let n7 = first-none seven [] (λ h. omega arith) (n6 .1) in
-    let room = both-within (length starts) (length cs + 1) (length picks) (length (joined cs)) (n7 .0) in
+    let room = both-within (length starts) (length cs + 1) (length picks) (length (picksOf cs)) (n7 .0) in
     record {
       few = ltb-false maxCopies (length cs) (n5 .0);
-      short = ltb-false maxPicks (length (joined cs)) (n6 .0);
+      short = ltb-false maxPicks (length (picksOf cs)) (n6 .0);
       starts-fit = room .0;
       picks-fit = room .1;
     }
@@ -200,7 +200,7 @@ module _ (solutes : List Float) (per : ℕ) (is starts picks : List ℕ) (accept
   unfolding selectRefusal selectRefusals listRefusals lengths counts coordinates
   select-room =
       let cs = keptCopies solutes per is in
-      let after = roomRefusals (length cs) (length (joined cs)) (length starts) (length picks) in
+      let after = roomRefusals (length cs) (length (picksOf cs)) (length starts) (length picks) in
       let n1 = first-none (lengths solutes []) (counts solutes [] is ∷ coordinates solutes [] ∷ after) (λ h. omega arith) accepted in
       let n2 = first-none (counts solutes [] is) (coordinates solutes [] ∷ after) (λ h. omega arith) (n1 .1) in
       room-none cs starts picks (first-none (coordinates solutes []) after (λ h. omega arith) (n2 .1) .1)
@@ -212,11 +212,11 @@ module _ (solutes : List Float) (per : ℕ) (is starts picks : List ℕ) (accept
       let cs = keptCopies solutes per is in
       rw accepted (take-at (startsOf cs) (drop (length (startsOf cs)) starts) (length cs + 1) (starts-length cs))
 
-  pub picks-selected : take (length (joined (keptCopies solutes per is))) (selectPicks solutes per is starts picks) ≡ joined (keptCopies solutes per is)
+  pub picks-selected : take (length (picksOf (keptCopies solutes per is))) (selectPicks solutes per is starts picks) ≡ picksOf (keptCopies solutes per is)
   unfolding selectPicks over
   picks-selected =
-      let all = joined (keptCopies solutes per is) in
+      let all = picksOf (keptCopies solutes per is) in
       rw accepted (take-append-seam all (drop (length all) picks))
 
-  pub selected-sound : soundLists solutes (take (length (keptCopies solutes per is) + 1) (selectStarts solutes per is starts picks)) (take (length (joined (keptCopies solutes per is))) (selectPicks solutes per is starts picks)) ≡ true
+  pub selected-sound : soundLists solutes (take (length (keptCopies solutes per is) + 1) (selectStarts solutes per is starts picks)) (take (length (picksOf (keptCopies solutes per is))) (selectPicks solutes per is starts picks)) ≡ true
   selected-sound = rw (starts-selected, picks-selected) (select-sound solutes per is (select-room .few) (select-room .short))

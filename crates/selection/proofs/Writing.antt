@@ -7,9 +7,10 @@ use native.Mathlib.Omega.{arith}
 use lib.ListN.{length, set, length-set}
 use lib.Seq.{set-set, drop-set-lt}
 use lib.Ieee.{Float}
-use Rattle.cell.specs.Tables.{placed, over}
-use Rattle.cell.proofs.Tables.{Filling, filling-first, filling-next, filling-append, filling-last, placed-zero}
-use Rattle.selection.specs.Selection.{picked, joined, startsFrom, startsOf}
+use Rattle.base.specs.Tables.{placed, over}
+use Rattle.base.proofs.Filling.{Filling, filling-first, filling-next, filling-append, filling-last}
+use Rattle.base.proofs.Placing.{placed-zero}
+use Rattle.selection.specs.Selection.{picked, picksOf, startsFrom, startsOf}
 use Rattle.selection.proofs.Copies.{copiesLeft, left-kept}
 
 -- where the picks of each copy end: the starts but the first
@@ -32,10 +33,10 @@ length-ends at (c ∷ cs) = ap suc (length-ends (at + length c) cs)
 pub record Writing (kept : List (List ℕ)) (starts₀ picks₀ : List ℕ) (rest : List (List ℕ)) (copies at : ℕ) (starts picks : List ℕ) : Type 0 where
   pub ends : Filling 0 (startsOf kept) starts₀ (copies + 1) (endsFrom at rest) starts
   pub room : copies + length rest < length starts
-  pub put : Filling 0 (joined kept) picks₀ at (joined rest) picks
+  pub put : Filling 0 (picksOf kept) picks₀ at (picksOf rest) picks
 
 -- the first start is 0 already
-pub writing-first : (kept : List (List ℕ)) (starts picks : List ℕ) → length kept < length starts → length (joined kept) ≤ length picks → Writing kept (set starts 0 0) picks kept 0 0 (set starts 0 0) picks
+pub writing-first : (kept : List (List ℕ)) (starts picks : List ℕ) → length kept < length starts → length (picksOf kept) ≤ length picks → Writing kept (set starts 0 0) picks kept 0 0 (set starts 0 0) picks
 unfolding startsOf
 writing-first kept starts picks h k =
     let t = set starts 0 0 in
@@ -52,7 +53,7 @@ first-over cs starts = rw (drop-set-lt (length (startsFrom 0 cs)) starts 0 0 (om
 
 -- the next copy has the picks p
 pub writing-next : {kept : List (List ℕ)} {starts₀ picks₀ : List ℕ} {p : List ℕ} {rest : List (List ℕ)} {copies at : ℕ} {starts picks : List ℕ} → Writing kept starts₀ picks₀ (p ∷ rest) copies at starts picks → Writing kept starts₀ picks₀ rest (copies + 1) (at + length p) (set starts (copies + 1) (at + length p)) (placed at p picks)
-unfolding endsFrom joined
+unfolding endsFrom picksOf
 writing-next {p = p} z = record { ends = filling-next (z .ends); room = simp length-set (omega (arith, z .room)); put = filling-append p (z .put) }
 
 -- a chunk of which something was picked has room for its end
@@ -60,6 +61,6 @@ pub writing-room : {kept : List (List ℕ)} {starts₀ picks₀ : List ℕ} (xs 
     → 0 < per → per ≤ length xs / 3 - base → end ≡ at + length (picked xs per is base) → at < end → copies + 1 < length starts
 writing-room xs per is base z some whole e h = omega (arith, z .room, ap length (left-kept xs per is base some whole (omega arith)))
 
-pub writing-last : {kept : List (List ℕ)} (starts₀ : List ℕ) {picks₀ : List ℕ} {copies at : ℕ} {starts picks : List ℕ} → Writing kept (set starts₀ 0 0) picks₀ [] copies at starts picks → (starts ≡ over (startsOf kept) starts₀) × (picks ≡ over (joined kept) picks₀)
-unfolding endsFrom joined
-writing-last {kept} starts₀ {picks₀} z = (filling-last (z .ends) ∙ placed-zero (startsOf kept) (set starts₀ 0 0) ∙ first-over kept starts₀, filling-last (z .put) ∙ placed-zero (joined kept) picks₀)
+pub writing-last : {kept : List (List ℕ)} (starts₀ : List ℕ) {picks₀ : List ℕ} {copies at : ℕ} {starts picks : List ℕ} → Writing kept (set starts₀ 0 0) picks₀ [] copies at starts picks → (starts ≡ over (startsOf kept) starts₀) × (picks ≡ over (picksOf kept) picks₀)
+unfolding endsFrom picksOf
+writing-last {kept} starts₀ {picks₀} z = (filling-last (z .ends) ∙ placed-zero (startsOf kept) (set starts₀ 0 0) ∙ first-over kept starts₀, filling-last (z .put) ∙ placed-zero (picksOf kept) picks₀)

@@ -5,18 +5,19 @@ use mathlib.Core.List.{List, [], _∷_, _++_}
 use lib.Dec.{ltb}
 use lib.ListN.{length}
 use lib.Ieee.{Float}
-use Rattle.frame_limits.specs.Limits.{maxCopies, maxPicks, lengths, counts, coordinates}
-use Rattle.cell.specs.Refusals.{Refusal, refuse, firstRefusal}
-use Rattle.cell.specs.Tables.{over, unlessRefused}
+use Rattle.base.specs.Limits.{maxCopies, maxPicks}
+use Rattle.frame_limits.specs.Limits.{lengths, counts, coordinates}
+use Rattle.base.specs.Refusals.{Refusal, refuse, firstRefusal}
+use Rattle.base.specs.Tables.{over, unlessRefused}
 use Rattle.pick_lists.specs.Sound.{finiteAtom}
 use Rattle.selection.specs.declared.Selected.{Selected}
 use Rattle.selection.specs.declared.Selected.the-variants.{Refused, Kept}
 
 -- the finite atoms among the n from number k on
-unfoldable pub finiteFrom : List Float → ℕ → ℕ → List ℕ
+unfoldable pub finiteAtoms : List Float → ℕ → ℕ → List ℕ
 unfolding finiteAtom
-finiteFrom xs zero k = []
-finiteFrom xs (suc n) k = let rest = finiteFrom xs n (k + 1) in cond (finiteAtom xs k) (k ∷ rest) rest
+finiteAtoms xs zero k = []
+finiteAtoms xs (suc n) k = let rest = finiteAtoms xs n (k + 1) in cond (finiteAtom xs k) (k ∷ rest) rest
 
 -- indices in list order, repeats again, those past the copy or not finite skipped; the copy has `per` atoms from number `base` on
 unfoldable pub indexed : List Float → ℕ → ℕ → List ℕ → List ℕ
@@ -31,8 +32,8 @@ orElse (x ∷ xs) ys = x ∷ xs
 
 -- what is picked of the copy at base: by the indices, and if nothing was (an empty index list picks nothing), all its finite atoms
 unfoldable pub picked : List Float → ℕ → List ℕ → ℕ → List ℕ
-unfolding finiteFrom indexed
-picked xs per is base = orElse (indexed xs per base is) (finiteFrom xs per base)
+unfolding finiteAtoms indexed
+picked xs per is base = orElse (indexed xs per base is) (finiteAtoms xs per base)
 
 -- a copy with no pick vanishes
 abbrev pub keep : List ℕ → List (List ℕ) → List (List ℕ)
@@ -56,9 +57,9 @@ unfolding copiesFrom chunks
 keptCopies xs per is = copiesFrom xs per is (chunks per (length xs / 3)) 0
 
 -- ---- the pick lists
-unfoldable pub joined : List (List ℕ) → List ℕ
-joined [] = []
-joined (c ∷ cs) = c ++ joined cs
+unfoldable pub picksOf : List (List ℕ) → List ℕ
+picksOf [] = []
+picksOf (c ∷ cs) = c ++ picksOf cs
 
 -- where each copy's picks start, and after the last where they end
 unfoldable pub startsFrom : ℕ → List (List ℕ) → List ℕ
@@ -84,10 +85,10 @@ roomRefusals copies picks startRoom pickRoom =
     ∷ []
 
 unfoldable pub selectRefusals : List Float → ℕ → List ℕ → List ℕ → List ℕ → List Refusal
-unfolding listRefusals roomRefusals keptCopies joined
+unfolding listRefusals roomRefusals keptCopies picksOf
 selectRefusals solutes per indices starts picks =
     let cs = keptCopies solutes per indices in
-    listRefusals solutes indices ++ roomRefusals (length cs) (length (joined cs)) (length starts) (length picks)
+    listRefusals solutes indices ++ roomRefusals (length cs) (length (picksOf cs)) (length starts) (length picks)
 
 unfoldable pub selectRefusal : List Float → ℕ → List ℕ → List ℕ → List ℕ → ℕ
 unfolding selectRefusals firstRefusal
@@ -95,21 +96,21 @@ selectRefusal solutes per indices starts picks = firstRefusal (selectRefusals so
 
 -- what Select answers: the kept copies and the picks, or the refusal's number
 unfoldable pub selectAnswer : List Float → ℕ → List ℕ → List ℕ → List ℕ → Selected
-unfolding selectRefusal keptCopies joined
+unfolding selectRefusal keptCopies picksOf
 selectAnswer solutes per indices starts picks =
     let r = selectRefusal solutes per indices starts picks in
     let cs = keptCopies solutes per indices in
-    unlessRefused r (Kept (length cs) (length (joined cs))) (Refused r)
+    unlessRefused r (Kept (length cs) (length (picksOf cs))) (Refused r)
 
 -- the number of each case of an answer: a refusal's own, 0 for success
-abbrev pub refusalOf : Selected → ℕ
-refusalOf (Refused n) = n
-refusalOf (Kept copies picks) = 0
+abbrev pub selectNumber : Selected → ℕ
+selectNumber (Refused n) = n
+selectNumber (Kept copies picks) = 0
 
 -- the values of each case: none with a refusal, the kept copies and the picks with success
-abbrev pub valuesOf : Selected → List ℕ
-valuesOf (Refused n) = []
-valuesOf (Kept copies picks) = copies ∷ picks ∷ []
+abbrev pub selectValues : Selected → List ℕ
+selectValues (Refused n) = []
+selectValues (Kept copies picks) = copies ∷ picks ∷ []
 
 -- both tables afterwards
 unfoldable pub selectStarts : List Float → ℕ → List ℕ → List ℕ → List ℕ → List ℕ
@@ -117,5 +118,5 @@ unfolding selectRefusal keptCopies startsOf over
 selectStarts solutes per indices starts picks = unlessRefused (selectRefusal solutes per indices starts picks) (over (startsOf (keptCopies solutes per indices)) starts) starts
 
 unfoldable pub selectPicks : List Float → ℕ → List ℕ → List ℕ → List ℕ → List ℕ
-unfolding selectRefusal keptCopies joined over
-selectPicks solutes per indices starts picks = unlessRefused (selectRefusal solutes per indices starts picks) (over (joined (keptCopies solutes per indices)) picks) picks
+unfolding selectRefusal keptCopies picksOf over
+selectPicks solutes per indices starts picks = unlessRefused (selectRefusal solutes per indices starts picks) (over (picksOf (keptCopies solutes per indices)) picks) picks

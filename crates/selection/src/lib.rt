@@ -3,12 +3,14 @@
 ghost use mathlib.Core.Path.{_≡_};
 ghost use Prim.Native.Nat.{_+_, _*_, _≤_, _<_};
 ghost use lib.ListN.{length};
-ghost use Rattle.cell.specs.Refusals.{firstRefusal};
-ghost use Rattle.cell.specs.Tables.{placed, over};
-ghost use Rattle.selection.specs.Selection.{finiteFrom, indexed, picked, keptCopies, joined, startsOf, listRefusals, roomRefusals, selectAnswer, selectStarts, selectPicks};
-use frame_limits::MAX_COPIES;
-use frame_limits::MAX_INDICES;
-use frame_limits::MAX_PICKS;
+ghost use Rattle.base.specs.Entry.{old};
+ghost use Rattle.base.specs.Limits.{maxAtoms, maxIndices, maxPicks};
+ghost use Rattle.base.specs.Refusals.{firstRefusal};
+ghost use Rattle.base.specs.Tables.{placed, over};
+ghost use Rattle.selection.specs.Selection.{finiteAtoms, indexed, picked, keptCopies, picksOf, startsOf, listRefusals, roomRefusals, selectAnswer, selectStarts, selectPicks};
+use base::MAX_COPIES;
+use base::MAX_INDICES;
+use base::MAX_PICKS;
 
 // What Select answers: a refusal by its number, or the kept copies and the picks.
 pub enum Selected {
@@ -24,7 +26,7 @@ pub struct Counted {
 
 fn count_indexed(xs: &[f32], per: usize, base: usize, indices: &[u32]) -> usize
     requires { ⌜ (base + per) * 3 ≤ length (now xs) ⌝ }
-    ensures { λ r. ⌜ r ≡ length (indexed (now (xs .entry)) per base (now (indices .entry))) ⌝ }
+    ensures { λ r. ⌜ r ≡ length (indexed (old xs) per base (old indices)) ⌝ }
 {
     let mut n: usize = 0;
     let mut j = 0;
@@ -39,7 +41,7 @@ fn count_indexed(xs: &[f32], per: usize, base: usize, indices: &[u32]) -> usize
 
 fn count_finite(xs: &[f32], per: usize, base: usize) -> usize
     requires { ⌜ (base + per) * 3 ≤ length (now xs) ⌝ }
-    ensures { λ r. ⌜ r ≡ length (finiteFrom (now (xs .entry)) per base) ⌝ }
+    ensures { λ r. ⌜ r ≡ length (finiteAtoms (old xs) per base) ⌝ }
 {
     let mut n: usize = 0;
     let mut k: usize = 0;
@@ -55,8 +57,9 @@ fn count_finite(xs: &[f32], per: usize, base: usize) -> usize
 // How many atoms are picked of the copy at base.
 fn count_copy(xs: &[f32], per: usize, base: usize, indices: &[u32]) -> usize
     requires { ⌜ (base + per) * 3 ≤ length (now xs) ⌝ }
-    ensures { λ r. ⌜ r ≡ length (picked (now (xs .entry)) per (now (indices .entry)) base) ⌝ }
+    ensures { λ r. ⌜ r ≡ length (picked (old xs) per (old indices) base) ⌝ }
 {
+    // Where the indices pick nothing, every finite atom counts.
     let n = count_indexed(xs, per, base, indices);
     if n > 0 {
         return n;
@@ -66,11 +69,12 @@ fn count_copy(xs: &[f32], per: usize, base: usize, indices: &[u32]) -> usize
 
 // How many copies are kept and atoms picked. Within the limits on the lists neither sum wraps.
 pub fn count(xs: &[f32], per: usize, indices: &[u32]) -> Counted
-    requires { ⌜ (length (now xs) ≤ 196608) × (length (now indices) ≤ 256) ⌝ }
-    ensures { λ r. ⌜ (r .copies ≡ length (keptCopies (now (xs .entry)) per (now (indices .entry)))) × (r .picks ≡ length (joined (keptCopies (now (xs .entry)) per (now (indices .entry))))) ⌝ }
+    requires { ⌜ (length (now xs) ≤ maxAtoms * 3) × (length (now indices) ≤ maxIndices) ⌝ }
+    ensures { λ r. ⌜ (r .copies ≡ length (keptCopies (old xs) per (old indices))) × (r .picks ≡ length (picksOf (keptCopies (old xs) per (old indices)))) ⌝ }
 {
     let mut copies: usize = 0;
     let mut picks: usize = 0;
+    // No atoms per copy: no chunk, and no division by it.
     if per == 0 {
         return Counted { copies, picks };
     }
@@ -78,6 +82,7 @@ pub fn count(xs: &[f32], per: usize, indices: &[u32]) -> Counted
     let mut base: usize = 0;
     while per <= atoms - base {
         let n = count_copy(xs, per, base, indices);
+        // A copy with no pick vanishes.
         if n > 0 {
             copies += 1;
         }
@@ -95,10 +100,10 @@ fn put_indexed(
     picks: &mut [u32],
     at: usize,
 ) -> usize
-    requires { ⌜ ((base + per) * 3 ≤ length (now xs)) × (length (now xs) ≤ 196608) ⌝ }
+    requires { ⌜ ((base + per) * 3 ≤ length (now xs)) × (length (now xs) ≤ maxAtoms * 3) ⌝ }
     requires { ⌜ at + length (indexed (now xs) per base (now indices)) ≤ length (now picks) ⌝ }
-    ensures { λ r. ⌜ r ≡ at + length (indexed (now (xs .entry)) per base (now (indices .entry))) ⌝ }
-    ensures { λ r. ⌜ now (picks .exit) ≡ placed at (indexed (now (xs .entry)) per base (now (indices .entry))) (now (picks .entry)) ⌝ }
+    ensures { λ r. ⌜ r ≡ at + length (indexed (old xs) per base (old indices)) ⌝ }
+    ensures { λ r. ⌜ now (picks .exit) ≡ placed at (indexed (old xs) per base (old indices)) (old picks) ⌝ }
 {
     let mut end = at;
     let mut j = 0;
@@ -114,10 +119,10 @@ fn put_indexed(
 }
 
 fn put_finite(xs: &[f32], per: usize, base: usize, picks: &mut [u32], at: usize) -> usize
-    requires { ⌜ ((base + per) * 3 ≤ length (now xs)) × (length (now xs) ≤ 196608) ⌝ }
-    requires { ⌜ at + length (finiteFrom (now xs) per base) ≤ length (now picks) ⌝ }
-    ensures { λ r. ⌜ r ≡ at + length (finiteFrom (now (xs .entry)) per base) ⌝ }
-    ensures { λ r. ⌜ now (picks .exit) ≡ placed at (finiteFrom (now (xs .entry)) per base) (now (picks .entry)) ⌝ }
+    requires { ⌜ ((base + per) * 3 ≤ length (now xs)) × (length (now xs) ≤ maxAtoms * 3) ⌝ }
+    requires { ⌜ at + length (finiteAtoms (now xs) per base) ≤ length (now picks) ⌝ }
+    ensures { λ r. ⌜ r ≡ at + length (finiteAtoms (old xs) per base) ⌝ }
+    ensures { λ r. ⌜ now (picks .exit) ≡ placed at (finiteAtoms (old xs) per base) (old picks) ⌝ }
 {
     let mut end = at;
     let mut k: usize = 0;
@@ -141,11 +146,12 @@ fn put_copy(
     picks: &mut [u32],
     at: usize,
 ) -> usize
-    requires { ⌜ ((base + per) * 3 ≤ length (now xs)) × (length (now xs) ≤ 196608) ⌝ }
+    requires { ⌜ ((base + per) * 3 ≤ length (now xs)) × (length (now xs) ≤ maxAtoms * 3) ⌝ }
     requires { ⌜ at + length (picked (now xs) per (now indices) base) ≤ length (now picks) ⌝ }
-    ensures { λ r. ⌜ r ≡ at + length (picked (now (xs .entry)) per (now (indices .entry)) base) ⌝ }
-    ensures { λ r. ⌜ now (picks .exit) ≡ placed at (picked (now (xs .entry)) per (now (indices .entry)) base) (now (picks .entry)) ⌝ }
+    ensures { λ r. ⌜ r ≡ at + length (picked (old xs) per (old indices) base) ⌝ }
+    ensures { λ r. ⌜ now (picks .exit) ≡ placed at (picked (old xs) per (old indices) base) (old picks) ⌝ }
 {
+    // Where no index named a finite atom nothing was written yet.
     let end = put_indexed(xs, per, base, indices, picks, at);
     if end > at {
         return end;
@@ -155,11 +161,12 @@ fn put_copy(
 
 // Writes both pick lists into tables that have room for them. A copy's picks end where the next one's start.
 pub fn fill(xs: &[f32], per: usize, indices: &[u32], starts: &mut [u32], picks: &mut [u32])
-    requires { ⌜ (length (now xs) ≤ 196608) × (length (joined (keptCopies (now xs) per (now indices))) ≤ 65536) ⌝ }
-    requires { ⌜ (length (keptCopies (now xs) per (now indices)) < length (now starts)) × (length (joined (keptCopies (now xs) per (now indices))) ≤ length (now picks)) ⌝ }
-    ensures { λ r. ⌜ now (starts .exit) ≡ over (startsOf (keptCopies (now (xs .entry)) per (now (indices .entry)))) (now (starts .entry)) ⌝ }
-    ensures { λ r. ⌜ now (picks .exit) ≡ over (joined (keptCopies (now (xs .entry)) per (now (indices .entry)))) (now (picks .entry)) ⌝ }
+    requires { ⌜ (length (now xs) ≤ maxAtoms * 3) × (length (picksOf (keptCopies (now xs) per (now indices))) ≤ maxPicks) ⌝ }
+    requires { ⌜ (length (keptCopies (now xs) per (now indices)) < length (now starts)) × (length (picksOf (keptCopies (now xs) per (now indices))) ≤ length (now picks)) ⌝ }
+    ensures { λ r. ⌜ now (starts .exit) ≡ over (startsOf (keptCopies (old xs) per (old indices))) (old starts) ⌝ }
+    ensures { λ r. ⌜ now (picks .exit) ≡ over (picksOf (keptCopies (old xs) per (old indices))) (old picks) ⌝ }
 {
+    // Where the first copy's picks start, and with no copies where they end.
     starts[0] = 0;
     if per == 0 {
         return;
@@ -170,6 +177,7 @@ pub fn fill(xs: &[f32], per: usize, indices: &[u32], starts: &mut [u32], picks: 
     let mut at: usize = 0;
     while per <= atoms - base {
         let end = put_copy(xs, per, base, indices, picks, at);
+        // A vanished copy has no start of its own.
         if at < end {
             copies += 1;
             starts[copies] = end as u32;
@@ -181,7 +189,7 @@ pub fn fill(xs: &[f32], per: usize, indices: &[u32], starts: &mut [u32], picks: 
 
 // The first of 1, 2 and 4 that holds, or 0.
 fn list_refusal(solutes: &[f32], indices: &[u32]) -> u32
-    ensures { λ r. ⌜ r ≡ firstRefusal (listRefusals (now (solutes .entry)) (now (indices .entry))) ⌝ }
+    ensures { λ r. ⌜ r ≡ firstRefusal (listRefusals (old solutes) (old indices)) ⌝ }
 {
     if frame_limits::ragged(solutes) {
         return 1;
@@ -219,14 +227,15 @@ pub fn select(
     starts: &mut [u32],
     picks: &mut [u32],
 ) -> Selected
-    ensures answer { λ r. ⌜ r ≡ selectAnswer (now (solutes .entry)) per (now (indices .entry)) (now (starts .entry)) (now (picks .entry)) ⌝ }
-    ensures starts_after { λ r. ⌜ now (starts .exit) ≡ selectStarts (now (solutes .entry)) per (now (indices .entry)) (now (starts .entry)) (now (picks .entry)) ⌝ }
-    ensures picks_after { λ r. ⌜ now (picks .exit) ≡ selectPicks (now (solutes .entry)) per (now (indices .entry)) (now (starts .entry)) (now (picks .entry)) ⌝ }
+    ensures answer { λ r. ⌜ r ≡ selectAnswer (old solutes) per (old indices) (old starts) (old picks) ⌝ }
+    ensures starts_after { λ r. ⌜ now (starts .exit) ≡ selectStarts (old solutes) per (old indices) (old starts) (old picks) ⌝ }
+    ensures picks_after { λ r. ⌜ now (picks .exit) ≡ selectPicks (old solutes) per (old indices) (old starts) (old picks) ⌝ }
 {
     let unfit = list_refusal(solutes, indices);
     if unfit != 0 {
         return Selected::Refused(unfit);
     }
+    // Both counts are known before the first write, so that a refusal leaves the tables.
     let n = count(solutes, per, indices);
     let crowded = room_refusal(n, starts.len(), picks.len());
     if crowded != 0 {

@@ -10,10 +10,10 @@ use lib.ListN.{length, getD, set, replicate, getD-replicate}
 use lib.Seq.{getD-set-same, getD-set-other}
 use lib.Dec.{eqb}
 use borrow.Author.Tests.{eq-eqb, ne-eqb}
-use Rattle.union_find.specs.Range.{count}
+use Rattle.base.specs.Range.{count}
 use Rattle.union_find.specs.Parents.{reachesRoot}
-use Rattle.sound_parents.specs.Stamps.{Stamped}
-use Rattle.union_find.proofs.Ranges.{count-add}
+use Rattle.sound_parents.specs.Inner.{Stamped}
+use Rattle.base.proofs.Ranges.{count-add}
 use Rattle.union_find.proofs.Forest.{Root, here, up, decide, one-distance, Closed}
 use Rattle.union_find.proofs.Trails.{reaches-of, reaches-root}
 

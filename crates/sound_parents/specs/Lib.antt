@@ -1,2 +1,2 @@
--- What the test of a list of parents leaves in its scratch.
-pub mod Stamps
+-- What only contracts of inner functions cite.
+pub mod Inner

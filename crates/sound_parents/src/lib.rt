@@ -5,14 +5,17 @@ ghost use mathlib.Core.Bool.{true};
 ghost use Prim.Native.Nat.{_+_, _<_, _≤_};
 ghost use lib.ListN.{length, getD};
 ghost use lib.Dec.{ltb};
-ghost use Rattle.union_find.specs.Range.{allBelow};
-ghost use Rattle.union_find.specs.Parents.{walk, rootWithin, reachesRoot, soundParents};
-ghost use Rattle.sound_parents.specs.Stamps.{Stamped};
-use union_find::MAX_COPIES;
+ghost use Rattle.base.specs.Entry.{old};
+ghost use Rattle.base.specs.Limits.{maxCopies};
+ghost use Rattle.base.specs.Range.{allBelow};
+ghost use Rattle.union_find.specs.Parents.{walk, reachesRoot, soundParents};
+ghost use Rattle.union_find.specs.Inner.{rootWithin};
+ghost use Rattle.sound_parents.specs.Inner.{Stamped};
+use base::MAX_COPIES;
 
 // Whether every word is below n. The loop has no branch on a word, so that a processor tests several at once.
 pub fn all_below(words: &[u32], n: u32) -> bool
-    ensures { λ r. ⌜ r ≡ allBelow (length (now (words .entry))) (λ i. ltb (getD (now (words .entry)) i 0) n) ⌝ }
+    ensures { λ r. ⌜ r ≡ allBelow (length (old words)) (λ i. ltb (getD (old words) i 0) n) ⌝ }
 {
     let mut all = true;
     let mut i = 0;
@@ -27,7 +30,7 @@ pub fn all_below(words: &[u32], n: u32) -> bool
 fn two_up(parent: &[u32], i: u32) -> u32
     requires { ⌜ allBelow (length (now parent)) (λ i. ltb (getD (now parent) i 0) (length (now parent))) ≡ true ⌝ }
     requires { ⌜ i < length (now parent) ⌝ }
-    ensures { λ r. ⌜ (r ≡ walk (now (parent .entry)) 2 i) × (r < length (now (parent .entry))) ⌝ }
+    ensures { λ r. ⌜ (r ≡ walk (old parent) 2 i) × (r < length (old parent)) ⌝ }
 {
     let k = parent[i as usize];
     parent[k as usize]
@@ -37,7 +40,7 @@ fn two_up(parent: &[u32], i: u32) -> u32
 fn four_up(parent: &[u32], i: u32) -> u32
     requires { ⌜ allBelow (length (now parent)) (λ i. ltb (getD (now parent) i 0) (length (now parent))) ≡ true ⌝ }
     requires { ⌜ i < length (now parent) ⌝ }
-    ensures { λ r. ⌜ (r ≡ walk (now (parent .entry)) 4 i) × (r < length (now (parent .entry))) ⌝ }
+    ensures { λ r. ⌜ (r ≡ walk (old parent) 4 i) × (r < length (old parent)) ⌝ }
 {
     two_up(parent, two_up(parent, i))
 }
@@ -46,7 +49,7 @@ fn four_up(parent: &[u32], i: u32) -> u32
 fn near_root(parent: &[u32], i: u32) -> bool
     requires { ⌜ allBelow (length (now parent)) (λ i. ltb (getD (now parent) i 0) (length (now parent))) ≡ true ⌝ }
     requires { ⌜ i < length (now parent) ⌝ }
-    ensures { λ r. ⌜ r ≡ rootWithin (now (parent .entry)) 8 i ⌝ }
+    ensures { λ r. ⌜ r ≡ rootWithin (old parent) 8 i ⌝ }
 {
     let k = four_up(parent, i);
     if parent[k as usize] == k {
@@ -60,8 +63,8 @@ fn near_root(parent: &[u32], i: u32) -> bool
 // step turns on what an earlier copy led to, so it is the quicker test where it holds.
 fn shallow(parent: &[u32]) -> bool
     requires { ⌜ allBelow (length (now parent)) (λ i. ltb (getD (now parent) i 0) (length (now parent))) ≡ true ⌝ }
-    requires { ⌜ length (now parent) ≤ 4096 ⌝ }
-    ensures { λ r. ⌜ r ≡ allBelow (length (now (parent .entry))) (rootWithin (now (parent .entry)) 8) ⌝ }
+    requires { ⌜ length (now parent) ≤ maxCopies ⌝ }
+    ensures { λ r. ⌜ r ≡ allBelow (length (old parent)) (rootWithin (old parent) 8) ⌝ }
 {
     let mut i = 0;
     while i < parent.len() {
@@ -77,10 +80,10 @@ fn shallow(parent: &[u32]) -> bool
 // it saw reaches one; a copy that this walk saw closes a cycle.
 fn ends(parent: &[u32], seen: &mut [u32], i: u32) -> bool
     requires { ⌜ allBelow (length (now parent)) (λ i. ltb (getD (now parent) i 0) (length (now parent))) ≡ true ⌝ }
-    requires { ⌜ (i < length (now parent)) × (length (now parent) ≤ length (now seen)) × (length (now parent) ≤ 4096) ⌝ }
+    requires { ⌜ (i < length (now parent)) × (length (now parent) ≤ length (now seen)) × (length (now parent) ≤ maxCopies) ⌝ }
     requires { ⌜ Stamped (now parent) (now seen) i ⌝ }
-    ensures { λ r. ⌜ r ≡ reachesRoot (now (parent .entry)) i ⌝ }
-    ensures { λ r. ⌜ (r ≡ true → Stamped (now (parent .entry)) (now (seen .exit)) (i + 1)) ⌝ }
+    ensures { λ r. ⌜ r ≡ reachesRoot (old parent) i ⌝ }
+    ensures { λ r. ⌜ (r ≡ true → Stamped (old parent) (now (seen .exit)) (i + 1)) ⌝ }
 {
     let mut k = i;
     while seen[k as usize] == 0 {
@@ -96,9 +99,9 @@ fn ends(parent: &[u32], seen: &mut [u32], i: u32) -> bool
 // Whether every chain ends at a root, for parents that are all below n.
 fn all_end(parent: &[u32], seen: &mut [u32]) -> bool
     requires { ⌜ allBelow (length (now parent)) (λ i. ltb (getD (now parent) i 0) (length (now parent))) ≡ true ⌝ }
-    requires { ⌜ (length (now parent) ≤ length (now seen)) × (length (now parent) ≤ 4096) ⌝ }
+    requires { ⌜ (length (now parent) ≤ length (now seen)) × (length (now parent) ≤ maxCopies) ⌝ }
     requires { ⌜ Stamped (now parent) (now seen) 0 ⌝ }
-    ensures { λ r. ⌜ r ≡ allBelow (length (now (parent .entry))) (reachesRoot (now (parent .entry))) ⌝ }
+    ensures { λ r. ⌜ r ≡ allBelow (length (old parent)) (reachesRoot (old parent)) ⌝ }
 {
     let mut i = 0;
     while i < parent.len() {
@@ -112,8 +115,8 @@ fn all_end(parent: &[u32], seen: &mut [u32]) -> bool
 
 // Whether a list is sound: each parent below n, each copy reaches its own root in n steps.
 pub fn is_sound(parent: &[u32]) -> bool
-    requires { ⌜ length (now parent) ≤ 4096 ⌝ }
-    ensures { λ r. ⌜ r ≡ soundParents (now (parent .entry)) ⌝ }
+    requires { ⌜ length (now parent) ≤ maxCopies ⌝ }
+    ensures { λ r. ⌜ r ≡ soundParents (old parent) ⌝ }
 {
     if !all_below(parent, parent.len() as u32) {
         return false;

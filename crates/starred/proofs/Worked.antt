@@ -10,16 +10,17 @@ use Rattle.floats.specs.Whole.{floorOf, roundOf}
 use Rattle.cell.specs.declared.Vec3.{Vec3}
 use Rattle.cell.specs.declared.Cell.{Cell}
 use Rattle.cell.specs.Cell.{extentOf, validAxis, valid, wrapAxis, wrap, imageAxis, minImage, volumeOf, pointAt, finitePoint}
-use Rattle.cell.specs.Refusals.{firstRefusal}
-use Rattle.frame_limits.specs.Limits.{over, anyOver, ragged, long, longIndices, boundOver, lengths, counts, bounds, coordinates, limitRefusals}
+use Rattle.base.specs.Refusals.{firstRefusal}
+use Rattle.frame_limits.specs.Limits.{exceeds, anyOver, ragged, long, longIndices, boundOver, lengths, counts, bounds, coordinates, limitRefusals}
 use Rattle.pick_lists.specs.Sound.{finiteAtom}
-use Rattle.selection.specs.Selection.{finiteFrom, indexed, picked, copiesFrom, chunks, keptCopies}
+use Rattle.selection.specs.Selection.{finiteAtoms, indexed, picked, copiesFrom, chunks, keptCopies}
 use Rattle.dispersion.specs.Dispersion.{clamped}
 use Rattle.dispersion.proofs.Examples.{checked}
 use Rattle.points.specs.Points.{finiteWaters}
-use Rattle.leaf.specs.Leaf.{larger, roomVolume, referenceLeaves, referenceVolume, partitionScore}
+use Rattle.floats.specs.Order.{larger}
+use Rattle.leaf.specs.Leaf.{roomVolume, referenceLeaves, referenceVolume, partitionScore}
 use Rattle.frame_tests.specs.Tests.{isBlank}
-use Rattle.mixing.specs.Frame.{Frame, given, kept, limited, blankHolds}
+use Rattle.mixing.specs.Frame.{Frame, frameOf, kept, limited, blankHolds}
 use Rattle.mixing.proofs.Outcomes.{outcome-blank}
 use Rattle.starred.specs.Starred.{Starred, WithinLimits, AnswersBlank, alike, upTo, atoms}
 
@@ -47,22 +48,22 @@ none-holds f e = rw e (fourth-holds (not (valid (f .cell))) (eqb (length (f .sol
 
 -- ---- five atoms and a water at the origin
 abbrev narrow : Frame
-narrow = given (upTo 0x3400_0000) (atoms 5) 3 [] (atoms 1)
+narrow = frameOf (upTo 0x3400_0000) (atoms 5) 3 [] (atoms 1)
 
 abbrev ten : Frame
-ten = given (upTo 0x4120_0000) (atoms 5) 0 [] (atoms 1)
+ten = frameOf (upTo 0x4120_0000) (atoms 5) 0 [] (atoms 1)
 
 narrow-within : WithinLimits narrow
-unfolding limited limitRefusals lengths counts bounds coordinates ragged long longIndices boundOver anyOver over firstRefusal atoms ofBits neg lt
+unfolding limited limitRefusals lengths counts bounds coordinates ragged long longIndices boundOver anyOver exceeds firstRefusal atoms ofBits neg lt
 narrow-within = refl
 
 ten-within : WithinLimits ten
-unfolding limited limitRefusals lengths counts bounds coordinates ragged long longIndices boundOver anyOver over firstRefusal atoms ofBits neg lt
+unfolding limited limitRefusals lengths counts bounds coordinates ragged long longIndices boundOver anyOver exceeds firstRefusal atoms ofBits neg lt
 ten-within = refl
 
 -- ---- all of them
 pub starred : Starred
-unfolding wrap wrapAxis floorOf minImage imageAxis roundOf valid validAxis extentOf sqrtOf keptCopies copiesFrom chunks picked indexed finiteFrom finiteAtom pointAt finitePoint atoms referenceVolume referenceLeaves roomVolume larger volumeOf partitionScore clamped ofBits toBits ofInt sub mul div lt le
+unfolding wrap wrapAxis floorOf minImage imageAxis roundOf valid validAxis extentOf sqrtOf keptCopies copiesFrom chunks picked indexed finiteAtoms finiteAtom pointAt finitePoint atoms referenceVolume referenceLeaves roomVolume larger volumeOf partitionScore clamped ofBits toBits ofInt sub mul div lt le
 starred =
     record {
       below-wraps-high = refl;

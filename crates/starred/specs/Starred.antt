@@ -9,13 +9,14 @@ use Rattle.floats.specs.Root.{sqrtOf}
 use Rattle.cell.specs.declared.Vec3.{Vec3}
 use Rattle.cell.specs.declared.Cell.{Cell}
 use Rattle.cell.specs.Cell.{extentOf, valid, wrap, minImage}
-use Rattle.cell.specs.Refusals.{firstRefusal}
+use Rattle.base.specs.Refusals.{firstRefusal}
 use Rattle.selection.specs.Selection.{keptCopies}
-use Rattle.pick_lists.specs.Sound.{copiesIn}
+use Rattle.pick_lists.specs.Sound.{copies}
+use Rattle.pick_lists.specs.Input.{given}
 use Rattle.dispersion.specs.Dispersion.{dispersionOf}
 use Rattle.leaf.specs.Leaf.{referenceVolume, partitionScore}
 use Rattle.mixing.specs.declared.FrameAnswer.the-variants.{Blank}
-use Rattle.mixing.specs.Frame.{Frame, Tables, given, limited, frameAnswer, tablesAfter}
+use Rattle.mixing.specs.Frame.{Frame, FrameTables, frameOf, limited, frameAnswer, frameAfter}
 
 -- b on each axis, and the cell from 0 to b
 abbrev pub alike : ℕ → Vec3
@@ -35,7 +36,7 @@ WithinLimits f = firstRefusal (limited f) ≡ 0
 
 -- the whole frame answers blank and leaves the lent tables untouched, whatever they are
 abbrev pub AnswersBlank : Frame → Type 0
-AnswersBlank f = (t : Tables) → (frameAnswer f t ≡ Blank) × (tablesAfter f t ≡ t)
+AnswersBlank f = (t : FrameTables) → (frameAnswer f t ≡ Blank) × (frameAfter f t ≡ t)
 
 pub record Starred : Type 0 where
   -- cell 0..10: -2 ^ -40 wraps to 10, and 10 wraps to 0
@@ -48,16 +49,16 @@ pub record Starred : Type 0 where
   -- extents 2 ^ -23: not valid, and so blank; five atoms and a water are within the limits there
   pub epsilon-not-valid : valid (upTo 0x3400_0000) ≡ false
   pub epsilon-blank : (f : Frame) → extentOf (f .cell) ≡ alike 0x3400_0000 → WithinLimits f → AnswersBlank f
-  pub epsilon-five-atoms : AnswersBlank (given (upTo 0x3400_0000) (atoms 5) 3 [] (atoms 1))
+  pub epsilon-five-atoms : AnswersBlank (frameOf (upTo 0x3400_0000) (atoms 5) 3 [] (atoms 1))
   -- extents each 1.5 * 2 ^ -23: valid, dispersion 0 for two copies
   pub above-epsilon-valid : valid (upTo 0x3440_0000) ≡ true
-  pub above-epsilon-disperses : (xs : List Float) (starts picks : List ℕ) → copiesIn starts ≡ 2 → dispersionOf (upTo 0x3440_0000) xs starts picks ≡ ofBits binary32 0
+  pub above-epsilon-disperses : (xs : List Float) (starts picks : List ℕ) → copies starts ≡ 2 → dispersionOf (given (upTo 0x3440_0000) xs [] starts picks) ≡ ofBits binary32 0
   -- three atoms per copy, five atoms: one copy
   pub short-chunk-dropped : keptCopies (atoms 5) 3 [] ≡ (0 ∷ 1 ∷ 2 ∷ []) ∷ []
   -- zero per copy: no copy, and so blank; five atoms and a water in the cell 0..10 are within the limits
   pub none-per-copy : keptCopies (atoms 5) 0 [] ≡ []
   pub none-per-copy-blank : (f : Frame) → f .per ≡ 0 → WithinLimits f → AnswersBlank f
-  pub none-of-five-atoms : AnswersBlank (given (upTo 0x4120_0000) (atoms 5) 0 [] (atoms 1))
+  pub none-of-five-atoms : AnswersBlank (frameOf (upTo 0x4120_0000) (atoms 5) 0 [] (atoms 1))
   -- indices 0, 0 pick atom 0 twice; index 9 alone picks all three
   pub repeated-index : keptCopies (atoms 3) 3 (0 ∷ 0 ∷ []) ≡ (0 ∷ 0 ∷ []) ∷ []
   pub index-past-copy : keptCopies (atoms 3) 3 (9 ∷ []) ≡ (0 ∷ 1 ∷ 2 ∷ []) ∷ []

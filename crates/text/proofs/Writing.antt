@@ -6,9 +6,9 @@ use Prim.Native.Nat.{ℕ, suc, _+_, _-_, _/_, _%_, _≤_, _<_}
 use native.Mathlib.Omega.{arith}
 use lib.ListN.{length, take, drop, set, length-append}
 use lib.Seq.{length-take-le, set-split, drop-at, take-set-le}
-use Rattle.cell.specs.Tables.{placed}
+use Rattle.base.specs.Tables.{placed}
 use Rattle.text.specs.Text.{glyph, digits, followed}
-use Rattle.cell.proofs.Tables.{length-placed, placed-one, placed-append}
+use Rattle.base.proofs.Placing.{length-placed, placed-one, placed-append}
 use Rattle.text.proofs.Numerals.{length-digits, digits-more}
 
 module _ {A : Type 0} where

@@ -3,7 +3,8 @@
 ghost use mathlib.Core.Path.{_≡_};
 ghost use Prim.Native.Nat.{_+_, _<_, _≤_};
 ghost use lib.ListN.{length};
-ghost use Rattle.cell.specs.Tables.{placed};
+ghost use Rattle.base.specs.Entry.{old};
+ghost use Rattle.base.specs.Tables.{placed};
 ghost use Rattle.text.specs.Text.{glyph as glyphOf, digits, places, decimal, hex, hexBits, occupancy, followed};
 
 // The digit that counts d.
@@ -30,7 +31,7 @@ pub fn decimal_places(n: usize) -> usize
 // The last k digits of n, from the last to the first.
 fn put_digits(n: usize, base: usize, k: usize, out: &mut [u8], at: usize) -> usize
     requires { ⌜ (0 < base) × (base ≤ 16) × (at + k ≤ length (now out)) ⌝ }
-    ensures { λ r. ⌜ (r ≡ at + k) × (now (out .exit) ≡ placed at (digits base k n) (now (out .entry))) ⌝ }
+    ensures { λ r. ⌜ (r ≡ at + k) × (now (out .exit) ≡ placed at (digits base k n) (old out)) ⌝ }
 {
     let mut left = k;
     let mut m = n;
@@ -44,7 +45,7 @@ fn put_digits(n: usize, base: usize, k: usize, out: &mut [u8], at: usize) -> usi
 
 pub fn put_text(text: &[u8], out: &mut [u8], at: usize) -> usize
     requires { ⌜ at + length (now text) ≤ length (now out) ⌝ }
-    ensures { λ r. ⌜ (r ≡ at + length (now (text .entry))) × (now (out .exit) ≡ placed at (now (text .entry)) (now (out .entry))) ⌝ }
+    ensures { λ r. ⌜ (r ≡ at + length (old text)) × (now (out .exit) ≡ placed at (old text) (old out)) ⌝ }
 {
     let mut end = at;
     let mut i = 0;
@@ -59,7 +60,7 @@ pub fn put_text(text: &[u8], out: &mut [u8], at: usize) -> usize
 // n in decimal.
 pub fn put_number(n: usize, after: u8, out: &mut [u8], at: usize) -> usize
     requires { ⌜ at + length (followed (decimal n) after) ≤ length (now out) ⌝ }
-    ensures { λ r. ⌜ (r ≡ at + length (followed (decimal n) after)) × (now (out .exit) ≡ placed at (followed (decimal n) after) (now (out .entry))) ⌝ }
+    ensures { λ r. ⌜ (r ≡ at + length (followed (decimal n) after)) × (now (out .exit) ≡ placed at (followed (decimal n) after) (old out)) ⌝ }
 {
     let end = put_digits(n, 10, decimal_places(n), out, at);
     out[end] = after;
@@ -69,7 +70,7 @@ pub fn put_number(n: usize, after: u8, out: &mut [u8], at: usize) -> usize
 // A word's bits in eight digits.
 pub fn put_word(w: u32, after: u8, out: &mut [u8], at: usize) -> usize
     requires { ⌜ at + length (followed (hex w) after) ≤ length (now out) ⌝ }
-    ensures { λ r. ⌜ (r ≡ at + length (followed (hex w) after)) × (now (out .exit) ≡ placed at (followed (hex w) after) (now (out .entry))) ⌝ }
+    ensures { λ r. ⌜ (r ≡ at + length (followed (hex w) after)) × (now (out .exit) ≡ placed at (followed (hex w) after) (old out)) ⌝ }
 {
     let end = put_digits(w as usize, 16, 8, out, at);
     out[end] = after;
@@ -79,7 +80,7 @@ pub fn put_word(w: u32, after: u8, out: &mut [u8], at: usize) -> usize
 // A float's bits.
 pub fn put_bits(x: f32, after: u8, out: &mut [u8], at: usize) -> usize
     requires { ⌜ at + length (followed (hexBits x) after) ≤ length (now out) ⌝ }
-    ensures { λ r. ⌜ (r ≡ at + length (followed (hexBits x) after)) × (now (out .exit) ≡ placed at (followed (hexBits x) after) (now (out .entry))) ⌝ }
+    ensures { λ r. ⌜ (r ≡ at + length (followed (hexBits x) after)) × (now (out .exit) ≡ placed at (followed (hexBits x) after) (old out)) ⌝ }
 {
     put_word(numbers::class::to_bits32(x), after, out, at)
 }
@@ -87,7 +88,7 @@ pub fn put_bits(x: f32, after: u8, out: &mut [u8], at: usize) -> usize
 // `dry` where the word is 0, else its bits.
 pub fn put_occupancy(w: u32, out: &mut [u8], at: usize) -> usize
     requires { ⌜ at + length (followed (occupancy w) 32) ≤ length (now out) ⌝ }
-    ensures { λ r. ⌜ (r ≡ at + length (followed (occupancy w) 32)) × (now (out .exit) ≡ placed at (followed (occupancy w) 32) (now (out .entry))) ⌝ }
+    ensures { λ r. ⌜ (r ≡ at + length (followed (occupancy w) 32)) × (now (out .exit) ≡ placed at (followed (occupancy w) 32) (old out)) ⌝ }
 {
     if w == 0 {
         return put_text(b"dry ", out, at);

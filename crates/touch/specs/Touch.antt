@@ -7,7 +7,7 @@ use lib.Ieee.{Float, binary32, mul, le, ofBits}
 use Rattle.cell.specs.Cell.{extentOf, distance2, pointAt}
 use Rattle.pick_lists.specs.Sound.{pickList}
 use Rattle.cell.specs.declared.Vec3.{Vec3}
-use Rattle.cell.specs.declared.Cell.{Cell}
+use Rattle.pick_lists.specs.Input.{Input}
 
 -- 4.2 x 4.2, one f32 product
 unfoldable pub cutoff2 : Float
@@ -29,6 +29,6 @@ unfolding anyIn
 anyPair f ps qs = anyIn (λ p. anyIn (f p) qs) ps
 
 -- copies i and j touch
-unfoldable pub copiesTouch : Cell → List Float → List ℕ → List ℕ → ℕ → ℕ → Bool
+unfoldable pub copiesTouch : Input → ℕ → ℕ → Bool
 unfolding near anyPair pickList
-copiesTouch c xs starts picks i j = anyPair (near (extentOf c) xs) (pickList starts picks i) (pickList starts picks j)
+copiesTouch f i j = anyPair (near (extentOf (f .cell)) (f .solutes)) (pickList (f .starts) (f .picks) i) (pickList (f .starts) (f .picks) j)

@@ -1,98 +1,104 @@
 -- What a call answers and leaves: order lists of which a part was lent come back whole; at a refusal other than 13 every table is as it
--- was; Tree's answer is the builder's; and the tree over written points is the frame's. Assumes nothing.
+-- was; the tree over written points is the frame's; and Tree's answer is the builder's. Assumes nothing.
 use mathlib.Core.Path.{_≡_, refl, sym, ap, _∙_}
 use mathlib.Core.Bool.{Bool, true, false, cond}
-use mathlib.Core.List.{List, _++_}
-use Prim.Native.Nat.{ℕ, _*_, _/_}
+use mathlib.Core.List.{List, [], _++_, append-assoc}
+use Prim.Native.Nat.{ℕ, _*_, _≤_}
 use native.Mathlib.Omega.{arith}
 use borrow.Author.Tests.{ne-eqb}
 use lib.Dec.{ltb}
-use lib.ListN.{length, take, drop, replicate}
-use lib.Seq.{take-at}
-use lib.Ieee.{Float, binary32, ofBits}
-use Rattle.cell.specs.declared.Cell.{Cell}
-use Rattle.cell.specs.Tables.{over, unlessRefused}
-use Rattle.cell.proofs.Tables.{at-refusal, number-answered}
-use Rattle.pick_lists.specs.Sound.{copiesIn}
-use Rattle.tree_tables.proofs.Answering.{built-told}
+use lib.ListN.{length, take, drop, length-append, take-append-drop}
+use lib.Seq.{length-take-le, take-at, drop-append-le}
+use lib.Ieee.{Float}
+use Rattle.base.specs.Refusals.{firstRefusal}
+use Rattle.base.specs.Tables.{over, unlessRefused}
+use Rattle.base.proofs.FirstRefusal.{at-refusal, number-answered}
+use Rattle.pick_lists.specs.Sound.{copies}
+use Rattle.pick_lists.specs.Input.{Input, given}
+use Rattle.centers.specs.Centers.{centersOf}
 use Rattle.octree.specs.declared.Built.{Built}
 use Rattle.octree.specs.declared.Built.the-variants.{Nodes, Full}
-use Rattle.nodes.specs.Nodes.{firstNumbers, deepest, recordsOf, boxesOf}
-use Rattle.octree.specs.Tree.{Subtrees, pointNumbers, builtAnswer, builtNumber, treeRefusal, centerOrderLeft, waterOrderLeft, recordsLeft, boxesLeft}
+use Rattle.nodes.specs.Nodes.{deepest}
+use Rattle.octree.specs.Tree.{Subtrees, TreeTables, treeTables, tablesAfter}
+use Rattle.octree.specs.Inner.{builtAnswer, builtNumber}
+use Rattle.tree_tables.proofs.Answering.{Answers, tables-same, built-told}
 use Rattle.points.specs.Points.{treeCenters, treeWaters, finiteWaters}
 use Rattle.tree.specs.declared.TreeAnswer as TreeAnswer
 use Rattle.tree.specs.declared.TreeAnswer.{TreeAnswer}
-use Rattle.tree.specs.Tree.{frameTree, treeOver, treeOn, byOutcome, treeAnswer, treeNumber, centerOrderAfter, waterOrderAfter, recordsAfter, boxesAfter}
+use Rattle.tree.specs.Tree.{frameTree, wholeRecords, treeRefusal, treeAnswer, treeNumber, inputAfter, treeAfter}
+use Rattle.tree.specs.Inner.{treeOver, treeOn}
 use Rattle.points.proofs.Wrapping.{centers-size}
 use Rattle.points.proofs.WaterList.{waters-length}
-
--- the tables that an answer of number r leaves: the order lists co and wo of n centers and m waters, and the node tables
-abbrev pub Leaves : ℕ → Subtrees → ℕ → ℕ → List ℕ → List ℕ → List ℕ → List ℕ → List ℕ → List ℕ → List Float → List Float → Type 0
-Leaves r t n m co co' wo wo' rec rec' box box' =
-    (co' ≡ centerOrderAfter r t n co)
-    × ((wo' ≡ waterOrderAfter r t m wo)
-    × ((rec' ≡ recordsAfter r t rec)
-    × (box' ≡ boxesAfter r t box)))
-
--- the builder's answer b, and the tables that it leaves
-abbrev pub Answers : Built → ℕ → Subtrees → ℕ → ℕ → List ℕ → List ℕ → List ℕ → List ℕ → List ℕ → List ℕ → List Float → List Float → Type 0
-Answers b room t n m co co' wo wo' rec rec' box box' =
-    (b ≡ builtAnswer room t) × Leaves (builtNumber b) t n m co co' wo wo' rec rec' box box'
-
-pub answers-same :
-    (b : Built) (room n m k : ℕ) (t u : Subtrees) (co co' wo wo' rec rec' : List ℕ) (box box' : List Float) → t ≡ u → m ≡ k →
-    Answers b room t n m co co' wo wo' rec rec' box box' → Answers b room u n k co co' wo wo' rec rec' box box'
-answers-same b room n m k t u co co' wo wo' rec rec' box box' e f h = rw (← e, ← f) h
+use Rattle.tree.proofs.TreeRefusals.{tests, call-tested, call-room}
 
 -- ---- a part of each order list was lent to the builder
-part-back : (last x order : List ℕ) (n : ℕ) → length last ≡ n → last ≡ x → last ++ drop n order ≡ over x order
+part-back : (last x order : List ℕ) (n : ℕ) → length last ≡ length (take n order) → last ≡ over x (take n order) → last ++ drop n order ≡ over x order
 unfolding over
-part-back last x order n h e =
-    let size : length x ≡ n = sym (ap length e) ∙ h in
-    rw (size, e)
+part-back last x order n same e =
+    let rest = drop (length x) (take n order) in
+    let short : length x ≤ length (take n order) = omega (arith, ap length e, length-append x rest) in
+    ap (λ (l : List ℕ). l ++ drop n order) e ∙ append-assoc x rest (drop n order)
+    ∙ ap (λ (l : List ℕ). x ++ l) (sym (drop-append-le (length x) (take n order) (drop n order) short) ∙ ap (drop (length x)) (take-append-drop n order))
 
-whole-points : (C : List Float) (n : ℕ) → length C ≡ n * 3 → length C / 3 ≡ n
-whole-points C n h = omega arith
+-- the tables t with the first n and m entries of their order lists
+abbrev partOf : ℕ → ℕ → TreeTables → TreeTables
+partOf n m t = treeTables (take n (t .centerOrder)) (take m (t .waterOrder)) (t .records) (t .boxes)
 
--- by the builder's number ρ
-parts-of :
-    (b : Built) (ρ : ℕ) (t : Subtrees) (C W : List Float) (n m : ℕ) (co cl wo wl rec rec' : List ℕ) (box box' : List Float) → ρ ≡ builtNumber b →
-    length C ≡ n * 3 → length W ≡ m * 3 → length cl ≡ n → length wl ≡ m →
-    (cl ≡ unlessRefused ρ (t .centerOrder) (pointNumbers C))
-    × ((wl ≡ unlessRefused ρ (t .waterOrder) (pointNumbers W))
-    × ((rec' ≡ unlessRefused ρ (over (recordsOf (t .nodes)) rec) (replicate (length rec) 0))
-    × (box' ≡ unlessRefused ρ (over (boxesOf (t .nodes)) box) (replicate (length box) (ofBits binary32 0))))) →
-    Leaves (builtNumber b) t n m co (cl ++ drop n co) wo (wl ++ drop m wo) rec rec' box box'
-unfolding centerOrderAfter waterOrderAfter recordsAfter boxesAfter
-parts-of (Nodes k d) ρ t C W n m co cl wo wl rec rec' box box' e hc hw lc lw left =
-    let at = rw e at left in
-    (part-back cl (t .centerOrder) co n lc (at .0), (part-back wl (t .waterOrder) wo m lw (at .1 .0), at .1 .1))
-parts-of Full ρ t C W n m co cl wo wl rec rec' box box' e hc hw lc lw left =
-    let at = rw e at left in
-    let centers = part-back cl (firstNumbers n) co n lc (at .0 ∙ ap firstNumbers (whole-points C n hc)) in
-    let waters = part-back wl (firstNumbers m) wo m lw (at .1 .0 ∙ ap firstNumbers (whole-points W m hw)) in
-    (centers, (waters, at .1 .1))
+module _ (g : Subtrees) (n m : ℕ) (t : TreeTables) (fit-c : n ≤ length (t .centerOrder)) (fit-w : m ≤ length (t .waterOrder)) where
+  module _ (cs ws rec : List ℕ) (box : List Float) (same-c : length cs ≡ length (take n (t .centerOrder))) (same-w : length ws ≡ length (take m (t .waterOrder))) where
+    abbrev wholeTables : TreeTables
+    wholeTables = treeTables (cs ++ drop n (t .centerOrder)) (ws ++ drop m (t .waterOrder)) rec box
 
-pub parts-back :
-    (b : Built) (room : ℕ) (t : Subtrees) (C W : List Float) (n m : ℕ) (co cl wo wl rec rec' : List ℕ) (box box' : List Float) →
-    length C ≡ n * 3 → length W ≡ m * 3 → length cl ≡ n → length wl ≡ m →
-    (b ≡ builtAnswer room t)
-    × ((cl ≡ centerOrderLeft room t C)
-    × ((wl ≡ waterOrderLeft room t W)
-    × ((rec' ≡ recordsLeft room t rec)
-    × (box' ≡ boxesLeft room t box)))) →
-    Answers b room t n m co (cl ++ drop n co) wo (wl ++ drop m wo) rec rec' box box'
-parts-back b room t C W n m co cl wo wl rec rec' box box' hc hw lc lw (e, left) =
-    (e, parts-of b (treeRefusal room t) t C W n m co cl wo wl rec rec' box box' (sym (built-told t room b e .0)) hc hw lc lw left)
+    whole-back :
+        (x y rec′ : List ℕ) (box′ : List Float) → treeTables cs ws rec box ≡ treeTables (over x (take n (t .centerOrder))) (over y (take m (t .waterOrder))) rec′ box′ →
+        wholeTables ≡ treeTables (over x (t .centerOrder)) (over y (t .waterOrder)) rec′ box′
+    whole-back x y rec′ box′ e =
+        tables-same
+        (part-back cs x (t .centerOrder) n same-c (ap (λ (u : TreeTables). u .centerOrder) e))
+        (part-back ws y (t .waterOrder) m same-w (ap (λ (u : TreeTables). u .waterOrder) e))
+        (ap (λ (u : TreeTables). u .records) e)
+        (ap (λ (u : TreeTables). u .boxes) e)
+
+    parts-of : (b : Built) → treeTables cs ws rec box ≡ tablesAfter (builtNumber b) g n m (partOf n m t) → wholeTables ≡ tablesAfter (builtNumber b) g n m t
+    unfolding tablesAfter
+    parts-of (Nodes k d) e = whole-back _ _ _ _ e
+    parts-of Full e = whole-back _ _ _ _ e
+
+    pub parts-back :
+        (b : Built) (room : ℕ) → Answers b room g (length (take n (t .centerOrder))) (length (take m (t .waterOrder))) (partOf n m t) (treeTables cs ws rec box) →
+        Answers b room g n m t wholeTables
+    parts-back b room (answer, after) = (answer, parts-of b (after ∙ rw (length-take-le n (t .centerOrder) fit-c, length-take-le m (t .waterOrder) fit-w)))
 
 -- ---- a refusal other than 13
-as-before : {A : Type 0} (r : ℕ) (x y z : A) → (r ≡ 0 → ⊥) → (r ≡ 13 → ⊥) → z ≡ byOutcome r x y z
-as-before r x y z h g = rw (ne-eqb r 0 h, ne-eqb r 13 g)
+pub unchanged : (r : ℕ) (f : Input) (t : TreeTables) → (r ≡ 0 → ⊥) → (r ≡ 13 → ⊥) → t ≡ inputAfter r f t
+unfolding inputAfter tablesAfter
+unchanged r f t h k = rw (ne-eqb r 0 h, ne-eqb r 13 k)
 
-pub unchanged : (r : ℕ) (t : Subtrees) (n m : ℕ) (co wo rec : List ℕ) (box : List Float) → (r ≡ 0 → ⊥) → (r ≡ 13 → ⊥) → Leaves r t n m co co wo wo rec rec box box
-unfolding centerOrderAfter waterOrderAfter recordsAfter boxesAfter
-unchanged r t n m co wo rec box h g =
-    (as-before r _ _ co h g, (as-before r _ _ wo h g, (as-before r _ _ rec h g, as-before r _ _ box h g)))
+-- ---- the tree over points that stand at the start of a list
+front : (L t : List Float) (k : ℕ) → length L ≡ k → take k (over L t) ≡ L
+unfolding over
+front L t k h = take-at L (drop (length L) t) k h
+
+pub over-centers : (f : Input) (table wrapped : List Float) (m : ℕ) → treeOver (f .cell) (over (treeCenters f) table) (copies (f .starts)) wrapped m ≡ treeOn f wrapped m
+unfolding treeOver treeOn
+over-centers f table wrapped m = rw (front (treeCenters f) table (copies (f .starts) * 3) (centers-size f))
+
+-- what a builder answers over a frame's tree, b, and the tables u that it leaves of t
+abbrev pub FrameAnswers : Built → ℕ → Input → TreeTables → TreeTables → Type 0
+FrameAnswers b room f t u = (b ≡ builtAnswer room (frameTree f)) × (u ≡ inputAfter (builtNumber b) f t)
+
+-- `tree_of` is given the wrapped waters in place of the frame's
+waters-given :
+    (f : Input) (table : List Float) →
+    treeOn (given (f .cell) (f .solutes) [] (f .starts) (f .picks)) (over (treeWaters (f .cell) (f .waters)) table) (finiteWaters (f .waters)) ≡ frameTree f
+unfolding treeOn frameTree treeCenters centersOf
+waters-given f table = rw (front (treeWaters (f .cell) (f .waters)) table (finiteWaters (f .waters) * 3) (waters-length (f .cell) (f .waters)))
+
+pub over-waters :
+    (f : Input) (b : Built) (room m : ℕ) (wrapped table : List Float) (t u : TreeTables) → m ≡ finiteWaters (f .waters) → wrapped ≡ over (treeWaters (f .cell) (f .waters)) table →
+    Answers b room (treeOn (given (f .cell) (f .solutes) [] (f .starts) (f .picks)) wrapped m) (copies (f .starts)) m t u → FrameAnswers b room f t u
+unfolding inputAfter
+over-waters f b room m wrapped table t u p q a = rw (p, q, waters-given f table) at a
 
 -- ---- Tree's answer
 -- what the builder's is for Tree
@@ -100,35 +106,28 @@ abbrev pub asTree : Built → TreeAnswer
 asTree (Nodes n d) = TreeAnswer.Nodes n d
 asTree Full = TreeAnswer.Refused 13
 
-module _ (t : Subtrees) where
-  as-tree : (full : Bool) → asTree (unlessRefused (cond full 13 0) (Nodes (length (t .nodes)) (deepest (t .nodes))) Full) ≡ treeAnswer (cond full 13 0) t
-  as-tree true = refl
-  as-tree false = refl
+as-tree : (g : Subtrees) (full : Bool) →
+    asTree (cond full Full (Nodes (length (g .nodes)) (deepest (g .nodes)))) ≡ unlessRefused (cond full 13 0) (TreeAnswer.Nodes (length (g .nodes)) (deepest (g .nodes))) (TreeAnswer.Refused (cond full 13 0))
+as-tree g true = refl
+as-tree g false = refl
 
-  pub tree-built : (room r : ℕ) (b : Built) → r ≡ treeRefusal room t → b ≡ builtAnswer room t → asTree b ≡ treeAnswer r t
-  tree-built room r b p e = rw (e, p) (as-tree (ltb room (length (t .nodes))))
+module _ (f : Input) (t : TreeTables) where
+  -- the builder's answer, where the tests refuse nothing
+  pub tree-built :
+      (b : Built) (u : TreeTables) → firstRefusal (tests f (t .centerOrder) (t .waterOrder)) ≡ 0 →
+      FrameAnswers b (wholeRecords t) f t u → (asTree b ≡ treeAnswer f t) × (u ≡ treeAfter f t)
+  unfolding treeAnswer treeAfter treeRefusal firstRefusal
+  tree-built b u none (answer, after) =
+      let number = call-room (wholeRecords t) f t none in
+      (rw (answer, number) (as-tree (frameTree f) (ltb (wholeRecords t) (length (frameTree f .nodes)))), rw number (rw (built-told (frameTree f) (wholeRecords t) b answer .0) at after))
 
-  pub tree-refused : (r : ℕ) → (r ≡ 0 → ⊥) → TreeAnswer.Refused r ≡ treeAnswer r t
-  tree-refused r h = sym (at-refusal r _ _ h)
+  -- a refusal r of the tests
+  pub tree-refused : (r : ℕ) → r ≡ firstRefusal (tests f (t .centerOrder) (t .waterOrder)) → (r ≡ 0 → ⊥) → (TreeAnswer.Refused r ≡ treeAnswer f t) × (t ≡ treeAfter f t)
+  unfolding treeAnswer treeAfter treeRefusal
+  tree-refused r e n =
+      let first = call-tested (wholeRecords t) f t r e n in
+      rw (← first .0) (sym (at-refusal r _ _ n), unchanged r f t n (first .1))
 
-  -- its number is the refusal's, and by that number it is the same answer
-  pub tree-told : (r : ℕ) (a : TreeAnswer) → a ≡ treeAnswer r t → (treeNumber a ≡ r) × (a ≡ treeAnswer (treeNumber a) t)
-  tree-told r a e =
-      let n = ap treeNumber e ∙ number-answered treeNumber TreeAnswer.Refused (TreeAnswer.Nodes (length (t .nodes)) (deepest (t .nodes))) refl (λ k. refl) r in
-      (n, e ∙ ap (λ (k : ℕ). treeAnswer k t) (sym n))
-
--- ---- the tree over points that stand at the start of a list
-front : (L t : List Float) (k : ℕ) → length L ≡ k → take k (over L t) ≡ L
-unfolding over
-front L t k h = take-at L (drop (length L) t) k h
-
-pub over-centers :
-    (c : Cell) (solutes : List Float) (starts picks : List ℕ) (table wrapped : List Float) (m : ℕ) →
-    treeOver c (over (treeCenters c solutes starts picks) table) (copiesIn starts) wrapped m ≡ treeOn c solutes starts picks wrapped m
-unfolding treeOver treeOn
-over-centers c solutes starts picks table wrapped m =
-    rw (front (treeCenters c solutes starts picks) table (copiesIn starts * 3) (centers-size c solutes starts picks))
-
-pub over-waters : (c : Cell) (solutes waters : List Float) (starts picks : List ℕ) (table : List Float) → treeOn c solutes starts picks (over (treeWaters c waters) table) (finiteWaters waters) ≡ frameTree c solutes waters starts picks
-unfolding treeOn frameTree
-over-waters c solutes waters starts picks table = rw (front (treeWaters c waters) table (finiteWaters waters * 3) (waters-length c waters))
+  pub tree-told : (a : TreeAnswer) → a ≡ treeAnswer f t → treeNumber a ≡ treeRefusal f t
+  unfolding treeAnswer
+  tree-told a e = ap treeNumber e ∙ number-answered treeNumber TreeAnswer.Refused (TreeAnswer.Nodes (length (frameTree f .nodes)) (deepest (frameTree f .nodes))) refl (λ k. refl) (treeRefusal f t)

@@ -2,13 +2,18 @@
 // Beside the lent tables a call keeps the wrapped points on its stack: 12,288 and 196,608 floats, and 65,536 words and bytes to split.
 ghost use mathlib.Core.Path.{_≡_};
 ghost use mathlib.Core.Bool.{true};
+ghost use mathlib.Core.List.{[]};
 ghost use Prim.Native.Nat.{_*_, _≤_};
 ghost use lib.ListN.{length};
-ghost use Rattle.cell.specs.Refusals.{firstRefusal};
-ghost use Rattle.pick_lists.specs.Sound.{soundLists, copiesIn};
-ghost use Rattle.octree.specs.Tree.{treeRoom, builtAnswer, builtNumber};
-ghost use Rattle.points.specs.Points.{finiteWaters};
-ghost use Rattle.tree.specs.Tree.{treeOver, treeOn, frameTree, wholeRecords, testRefusals, treeCallRefusal, treeAnswer, treeNumber, centerOrderAfter, waterOrderAfter, recordsAfter, boxesAfter};
+ghost use Rattle.base.specs.Entry.{old};
+ghost use Rattle.base.specs.Limits.{maxAtoms};
+ghost use Rattle.base.specs.Refusals.{firstRefusal};
+ghost use Rattle.pick_lists.specs.Sound.{soundLists, copies};
+ghost use Rattle.pick_lists.specs.Input.{given};
+ghost use Rattle.octree.specs.Inner.{treeRoom, builtAnswer, builtNumber};
+ghost use Rattle.octree.specs.Tree.{treeTables, tablesAfter};
+ghost use Rattle.tree.specs.Tree.{testRefusals, treeAnswer, treeAfter};
+ghost use Rattle.tree.specs.Inner.{treeOver, treeOn};
 use bounds::OctreeBounds;
 use cell::Cell;
 use octree::Built;
@@ -29,7 +34,7 @@ pub fn refusal(
     center_order: &[u32],
     water_order: &[u32],
 ) -> u32
-    ensures { λ r. ⌜ r ≡ firstRefusal (testRefusals cell (now (solutes .entry)) (now (waters .entry)) (now (starts .entry)) (now (picks .entry)) (now («center_order» .entry)) (now («water_order» .entry))) ⌝ }
+    ensures { λ r. ⌜ r ≡ firstRefusal (testRefusals (given cell (old solutes) (old waters) (old starts) (old picks)) (old «center_order») (old «water_order»)) ⌝ }
 {
     let first = pick_lists::input_refusal(cell, solutes, waters, starts, picks);
     if first != 0 {
@@ -38,6 +43,7 @@ pub fn refusal(
     if center_order.len() < starts.len() - 1 {
         return 7;
     }
+    // Waters that are not finite get no place.
     if water_order.len() < points::count_waters(waters) {
         return 7;
     }
@@ -57,13 +63,11 @@ fn tree_over(
     boxes: &mut [f32],
     limit: usize,
 ) -> Built
-    requires { ⌜ (n * 3 ≤ length (now centers)) × (m * 3 ≤ length (now waters)) × (n ≤ 65536) × (m ≤ 65536) ⌝ }
+    requires { ⌜ (n * 3 ≤ length (now centers)) × (m * 3 ≤ length (now waters)) × (n ≤ maxAtoms) × (m ≤ maxAtoms) ⌝ }
     requires { ⌜ (n ≤ length (now «center_order»)) × (m ≤ length (now «water_order»)) ⌝ }
-    ensures answer { λ r. ⌜ r ≡ builtAnswer (treeRoom (now (records .entry)) (now (boxes .entry)) limit) (treeOver cell (now (centers .entry)) n (now (waters .entry)) m) ⌝ }
-    ensures order { λ r. ⌜ now («center_order» .exit) ≡ centerOrderAfter (builtNumber r) (treeOver cell (now (centers .entry)) n (now (waters .entry)) m) n (now («center_order» .entry)) ⌝ }
-    ensures water { λ r. ⌜ now («water_order» .exit) ≡ waterOrderAfter (builtNumber r) (treeOver cell (now (centers .entry)) n (now (waters .entry)) m) m (now («water_order» .entry)) ⌝ }
-    ensures table { λ r. ⌜ now (records .exit) ≡ recordsAfter (builtNumber r) (treeOver cell (now (centers .entry)) n (now (waters .entry)) m) (now (records .entry)) ⌝ }
-    ensures corners { λ r. ⌜ now (boxes .exit) ≡ boxesAfter (builtNumber r) (treeOver cell (now (centers .entry)) n (now (waters .entry)) m) (now (boxes .entry)) ⌝ }
+    ensures answer { λ r. ⌜ r ≡ builtAnswer (treeRoom (old records) (old boxes) limit) (treeOver cell (old centers) n (old waters) m) ⌝ }
+    ensures after { λ r. ⌜ treeTables (now («center_order» .exit)) (now («water_order» .exit)) (now (records .exit)) (now (boxes .exit))
+        ≡ tablesAfter (builtNumber r) (treeOver cell (old centers) n (old waters) m) n m (treeTables (old «center_order») (old «water_order») (old records) (old boxes)) ⌝ }
 {
     tree_tables::build_tree(
         OctreeBounds::from_cell(cell),
@@ -93,13 +97,11 @@ pub fn tree_of(
     limit: usize,
 ) -> Built
     requires { ⌜ soundLists (now solutes) (now starts) (now picks) ≡ true ⌝ }
-    requires { ⌜ (m * 3 ≤ length (now wrapped)) × (m ≤ 65536) ⌝ }
-    requires { ⌜ (copiesIn (now starts) ≤ length (now «center_order»)) × (m ≤ length (now «water_order»)) ⌝ }
-    ensures answer { λ r. ⌜ r ≡ builtAnswer (treeRoom (now (records .entry)) (now (boxes .entry)) limit) (treeOn cell (now (solutes .entry)) (now (starts .entry)) (now (picks .entry)) (now (wrapped .entry)) m) ⌝ }
-    ensures order { λ r. ⌜ now («center_order» .exit) ≡ centerOrderAfter (builtNumber r) (treeOn cell (now (solutes .entry)) (now (starts .entry)) (now (picks .entry)) (now (wrapped .entry)) m) (copiesIn (now (starts .entry))) (now («center_order» .entry)) ⌝ }
-    ensures water { λ r. ⌜ now («water_order» .exit) ≡ waterOrderAfter (builtNumber r) (treeOn cell (now (solutes .entry)) (now (starts .entry)) (now (picks .entry)) (now (wrapped .entry)) m) m (now («water_order» .entry)) ⌝ }
-    ensures table { λ r. ⌜ now (records .exit) ≡ recordsAfter (builtNumber r) (treeOn cell (now (solutes .entry)) (now (starts .entry)) (now (picks .entry)) (now (wrapped .entry)) m) (now (records .entry)) ⌝ }
-    ensures corners { λ r. ⌜ now (boxes .exit) ≡ boxesAfter (builtNumber r) (treeOn cell (now (solutes .entry)) (now (starts .entry)) (now (picks .entry)) (now (wrapped .entry)) m) (now (boxes .entry)) ⌝ }
+    requires { ⌜ (m * 3 ≤ length (now wrapped)) × (m ≤ maxAtoms) ⌝ }
+    requires { ⌜ (copies (now starts) ≤ length (now «center_order»)) × (m ≤ length (now «water_order»)) ⌝ }
+    ensures answer { λ r. ⌜ r ≡ builtAnswer (treeRoom (old records) (old boxes) limit) (treeOn (given cell (old solutes) [] (old starts) (old picks)) (old wrapped) m) ⌝ }
+    ensures after { λ r. ⌜ treeTables (now («center_order» .exit)) (now («water_order» .exit)) (now (records .exit)) (now (boxes .exit))
+        ≡ tablesAfter (builtNumber r) (treeOn (given cell (old solutes) [] (old starts) (old picks)) (old wrapped) m) (copies (old starts)) m (treeTables (old «center_order») (old «water_order») (old records) (old boxes)) ⌝ }
 {
     let mut centers = centers::center_room();
     points::put_centers(cell, solutes, starts, picks, &mut centers);
@@ -129,11 +131,9 @@ pub fn tree(
     records: &mut [u32],
     boxes: &mut [f32],
 ) -> TreeAnswer
-    ensures answer { λ r. ⌜ r ≡ treeAnswer (treeCallRefusal cell (now (solutes .entry)) (now (waters .entry)) (now (starts .entry)) (now (picks .entry)) (now («center_order» .entry)) (now («water_order» .entry)) (wholeRecords (now (records .entry)) (now (boxes .entry)))) (frameTree cell (now (solutes .entry)) (now (waters .entry)) (now (starts .entry)) (now (picks .entry))) ⌝ }
-    ensures order { λ r. ⌜ now («center_order» .exit) ≡ centerOrderAfter (treeNumber r) (frameTree cell (now (solutes .entry)) (now (waters .entry)) (now (starts .entry)) (now (picks .entry))) (copiesIn (now (starts .entry))) (now («center_order» .entry)) ⌝ }
-    ensures water { λ r. ⌜ now («water_order» .exit) ≡ waterOrderAfter (treeNumber r) (frameTree cell (now (solutes .entry)) (now (waters .entry)) (now (starts .entry)) (now (picks .entry))) (finiteWaters (now (waters .entry))) (now («water_order» .entry)) ⌝ }
-    ensures table { λ r. ⌜ now (records .exit) ≡ recordsAfter (treeNumber r) (frameTree cell (now (solutes .entry)) (now (waters .entry)) (now (starts .entry)) (now (picks .entry))) (now (records .entry)) ⌝ }
-    ensures corners { λ r. ⌜ now (boxes .exit) ≡ boxesAfter (treeNumber r) (frameTree cell (now (solutes .entry)) (now (waters .entry)) (now (starts .entry)) (now (picks .entry))) (now (boxes .entry)) ⌝ }
+    ensures answer { λ r. ⌜ r ≡ treeAnswer (given cell (old solutes) (old waters) (old starts) (old picks)) (treeTables (old «center_order») (old «water_order») (old records) (old boxes)) ⌝ }
+    ensures after { λ r. ⌜ treeTables (now («center_order» .exit)) (now («water_order» .exit)) (now (records .exit)) (now (boxes .exit))
+        ≡ treeAfter (given cell (old solutes) (old waters) (old starts) (old picks)) (treeTables (old «center_order») (old «water_order») (old records) (old boxes)) ⌝ }
 {
     let first = refusal(
         cell,
@@ -149,6 +149,7 @@ pub fn tree(
     }
     let mut wrapped = points::water_room();
     let m = points::put_waters(cell, waters, &mut wrapped);
+    // No third table: the records alone.
     let limit = records.len() / 8;
     match tree_of(
         cell,

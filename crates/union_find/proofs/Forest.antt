@@ -10,9 +10,10 @@ use native.Mathlib.Decide.{ℕ-discrete}
 use lib.ListN.{length, getD}
 use lib.Dec.{eqb, ltb}
 use borrow.Author.Tests.{eq-eqb, ne-eqb, eqb-true, lt-ltb, ltb-true}
-use Rattle.union_find.specs.Range.{allBelow}
+use Rattle.base.specs.Range.{allBelow}
 use Rattle.union_find.specs.Parents.{walk, rootOf, reachesRoot, soundParents}
-use Rattle.union_find.proofs.Ranges.{all-true, all-at, and-left, and-right}
+use Rattle.base.proofs.Ranges.{all-true, all-at}
+use Rattle.base.proofs.Tests.{and-left, and-right}
 
 -- from i the root r is d steps away
 pub data Root (p : List ℕ) : ℕ → ℕ → ℕ → Type 0 where

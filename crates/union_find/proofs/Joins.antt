@@ -10,8 +10,7 @@ use borrow.Author.Tests.{eq-eqb, ne-eqb}
 use Rattle.union_find.specs.Parents.{rootOf, compressed, joined, soundParents}
 use Rattle.union_find.proofs.Forest.{Root, here, up, decide, is-root, Closed, Sound, sound-parents, sound-root}
 use Rattle.union_find.proofs.Trails.{root-below, root-of, sound-of}
-use Rattle.union_find.proofs.Roots.{stays-root, one-step, closed-set, root-low, compressed-length, compressed-sound, compressed-root}
-use Rattle.union_find.proofs.Roots.{Keeps, keeps-trans, keeps-compressed, keeps-sound, keeps-root}
+use Rattle.union_find.proofs.Roots.{stays-root, one-step, closed-set, root-low, compressed-length, compressed-sound, compressed-root, Keeps, keeps-trans, keeps-compressed, keeps-sound, keeps-root}
 
 -- ---- a root rb is put under another root ra
 -- where the root s goes when rb is put under ra
@@ -110,12 +109,6 @@ module _ (p : List ℕ) (a b : ℕ) (sound : soundParents p ≡ true) (la : a < 
 
   pub joined-length : length (joined p a b) ≡ length p
   joined-length = joins p a b s la lb .same
-
-  pub joined-sound : soundParents (joined p a b) ≡ true
-  joined-sound = sound-parents (joined p a b) .1 (joins p a b s la lb .sound)
-
-  pub joined-root : (x : ℕ) → x < length p → rootOf (joined p a b) x ≡ moved (rootOf p a) (rootOf p b) (rootOf p x)
-  joined-root x l = joins p a b s la lb .roots x l
 
   -- ---- the steps of `union_roots`
   pub sound-first : soundParents (compressed p a) ≡ true

@@ -1,6 +1,4 @@
 -- Laws that belong to no one function.
--- counts, sums, tests and the greatest over the numbers below n
-pub mod Ranges
 -- how far a copy is from its root; soundness as a record, and that the test of `specs/` says the same
 pub mod Forest
 -- a chain has fewer steps than there are copies: whoever reaches a root reaches it in n steps

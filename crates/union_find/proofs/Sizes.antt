@@ -8,9 +8,9 @@ use lib.ListN.{length, getD, set}
 use lib.Seq.{getD-set-same, getD-set-other}
 use lib.Dec.{eqb}
 use borrow.Author.Tests.{eq-eqb, ne-eqb}
-use Rattle.union_find.specs.Range.{count, greatest}
+use Rattle.base.specs.Range.{count, greatest}
 use Rattle.union_find.specs.Parents.{rootOf, compressed, soundParents, setSize, largestSet}
-use Rattle.union_find.proofs.Ranges.{count-none, count-hit, count-miss, count-le, count-pos, greatest-le, greatest-at, greatest-raise}
+use Rattle.base.proofs.Ranges.{count-none, count-hit, count-miss, count-le, count-pos, greatest-le, greatest-at, greatest-raise}
 use Rattle.union_find.proofs.Forest.{decide, Sound, sound-root}
 use Rattle.union_find.proofs.Trails.{root-below}
 use Rattle.union_find.proofs.Roots.{Keeps, keeps-refl, keeps-trans, keeps-sound, keeps-root, keeps-compressed, root-low}

@@ -8,9 +8,11 @@ use native.Mathlib.Omega.{arith}
 use lib.ListN.{length, getD}
 use lib.Dec.{eqb}
 use borrow.Author.Tests.{eq-eqb, ne-eqb, eqb-true}
-use Rattle.union_find.specs.Range.{count}
-use Rattle.union_find.specs.Parents.{walk, rootOf, rootWithin, reachesRoot}
-use Rattle.union_find.proofs.Ranges.{count-add, count-le, count-zero}
+use Rattle.base.proofs.Tests.{same-eqb}
+use Rattle.base.specs.Range.{count}
+use Rattle.union_find.specs.Parents.{walk, rootOf, reachesRoot}
+use Rattle.union_find.specs.Inner.{rootWithin}
+use Rattle.base.proofs.Ranges.{count-add, count-le, count-zero}
 use Rattle.union_find.proofs.Forest.{Root, here, up, one-distance, is-root, root-is, walk-root, walk-ends, Closed, Sound}
 
 -- the root is below n
@@ -25,15 +27,12 @@ pub record Trail (p : List ℕ) (n d : ℕ) : Type 0 where
   pub long : count n on ≡ suc d
   pub near : (y : ℕ) → on y ≡ true → (e : ℕ) × (s : ℕ) × (e ≤ d) × Root p e y s
 
-eqb-refl : (x : ℕ) → eqb x x ≡ true
-eqb-refl x = eq-eqb x x refl
-
 pub trail : {p : List ℕ} {d i r : ℕ} → Closed p → i < length p → Root p d i r → Trail p (length p) d
 trail {p} c l (here {r} e) =
     record {
       on = λ y. eqb y r;
       long =
-          count-add (length p) (λ y. false) (λ y. eqb y r) r l (λ k m n. sym (ne-eqb k r n)) refl (eqb-refl r)
+          count-add (length p) (λ y. false) (λ y. eqb y r) r l (λ k m n. sym (ne-eqb k r n)) refl (same-eqb r)
           ∙ ap suc (count-zero (length p) (λ y. false) (λ y m. refl));
       near = λ y h. (0, r, le-refl 0, rw (eqb-true y r h) (here e));
     }
@@ -43,7 +42,7 @@ trail {p} {i = i} c l (up {d = d} {r = r} n w) =
       on = λ y. eqb y i || t .on y;
       long =
           count-add (length p) (t .on) (λ y. eqb y i || t .on y) i l (λ k m h. other (t .on k) (ne-eqb k i h)) (off t (t .on i) refl)
-          (rw (eqb-refl i))
+          (rw (same-eqb i))
           ∙ ap suc (t .long);
       near = λ y h. at t y (eqb y i) refl h;
     }

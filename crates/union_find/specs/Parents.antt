@@ -5,7 +5,7 @@ use mathlib.Core.List.{List}
 use Prim.Native.Nat.{ℕ, zero, suc}
 use lib.ListN.{length, getD, set}
 use lib.Dec.{eqb, ltb}
-use Rattle.union_find.specs.Range.{allBelow, count, greatest}
+use Rattle.base.specs.Range.{allBelow, count, greatest}
 
 -- the copy k steps above i; at a root the walk stays
 unfoldable pub walk : List ℕ → ℕ → ℕ → ℕ
@@ -34,11 +34,6 @@ unfolding compressed rootOf
 joined p a b =
     let q = compressed (compressed p a) b in
     cond (eqb (rootOf p a) (rootOf p b)) q (set q (rootOf p b) (rootOf p a))
-
--- copy i has its root at most k steps above it
-unfoldable pub rootWithin : List ℕ → ℕ → ℕ → Bool
-unfolding walk
-rootWithin p k i = eqb (getD p (walk p k i) 0) (walk p k i)
 
 -- copy i reaches its own root in n steps
 unfoldable pub reachesRoot : List ℕ → ℕ → Bool

@@ -5,16 +5,16 @@ ghost use mathlib.Core.Bool.{true};
 ghost use mathlib.Core.List.{_++_};
 ghost use Prim.Native.Nat.{ℕ, _+_, _<_, _≤_};
 ghost use lib.ListN.{length, getD, drop};
+ghost use Rattle.base.specs.Entry.{old};
+ghost use Rattle.base.specs.Limits.{maxCopies};
 ghost use Rattle.union_find.specs.Parents.{rootOf, compressed, joined, soundParents, largestSet};
-
-// The most copies that a list can have.
-pub const MAX_COPIES: usize = 4096;
+use base::MAX_COPIES;
 
 // The root of i; each copy on the way is then put under it. The first loop yields the root, the second shortens.
-pub fn find_root(parent: &mut [u32], i: u32) -> u32
+fn find_root(parent: &mut [u32], i: u32) -> u32
     requires { ⌜ (soundParents (now parent) ≡ true) × (i < length (now parent)) ⌝ }
-    ensures { λ r. ⌜ r ≡ rootOf (now (parent .entry)) i ⌝ }
-    ensures { λ r. ⌜ now (parent .exit) ≡ compressed (now (parent .entry)) i ⌝ }
+    ensures { λ r. ⌜ r ≡ rootOf (old parent) i ⌝ }
+    ensures { λ r. ⌜ now (parent .exit) ≡ compressed (old parent) i ⌝ }
 {
     let mut root = i;
     while parent[root as usize] != root {
@@ -26,13 +26,13 @@ pub fn find_root(parent: &mut [u32], i: u32) -> u32
         parent[k as usize] = root;
         k = next;
     }
-    root // that the first loop found
+    root
 }
 
 // The set of b is joined to that of a: the root of b is put under the root of a.
 pub fn union_roots(parent: &mut [u32], a: u32, b: u32)
     requires { ⌜ (soundParents (now parent) ≡ true) × (a < length (now parent)) × (b < length (now parent)) ⌝ }
-    ensures { λ _. ⌜ now (parent .exit) ≡ joined (now (parent .entry)) a b ⌝ }
+    ensures { λ _. ⌜ now (parent .exit) ≡ joined (old parent) a b ⌝ }
 {
     let a_root = find_root(parent, a);
     let b_root = find_root(parent, b);
@@ -44,7 +44,7 @@ pub fn union_roots(parent: &mut [u32], a: u32, b: u32)
 // Copies the parents to the front of p; the rest of p keeps its values.
 fn copy_in(parent: &[u32], p: &mut [u32])
     requires { ⌜ length (now parent) ≤ length (now p) ⌝ }
-    ensures { λ _. ⌜ now (p .exit) ≡ now (parent .entry) ++ drop (length (now (parent .entry))) (now (p .entry)) ⌝ }
+    ensures { λ _. ⌜ now (p .exit) ≡ old parent ++ drop (length (old parent)) (old p) ⌝ }
 {
     let mut i = 0;
     while i < parent.len() {
@@ -55,9 +55,9 @@ fn copy_in(parent: &[u32], p: &mut [u32])
 
 // Finds each root in p, which shortens its chains, counts it in `sizes`, and answers the greatest count.
 fn greatest_size(p: &mut [u32], sizes: &mut [u32]) -> u32
-    requires { ⌜ (soundParents (now p) ≡ true) × (length (now p) ≤ 4096) × (length (now p) ≤ length (now sizes)) ⌝ }
+    requires { ⌜ (soundParents (now p) ≡ true) × (length (now p) ≤ maxCopies) × (length (now p) ≤ length (now sizes)) ⌝ }
     requires { ⌜ ((k : ℕ) → k < length (now p) → getD (now sizes) k 0 ≡ 0) ⌝ }
-    ensures { λ r. ⌜ r ≡ largestSet (now (p .entry)) ⌝ }
+    ensures { λ r. ⌜ r ≡ largestSet (old p) ⌝ }
 {
     let mut most = 0;
     let mut i = 0;
@@ -75,10 +75,10 @@ fn greatest_size(p: &mut [u32], sizes: &mut [u32]) -> u32
 
 // The largest set, with p and sizes to work in.
 fn largest_in(parent: &[u32], p: &mut [u32], sizes: &mut [u32]) -> u32
-    requires { ⌜ (soundParents (now parent) ≡ true) × (length (now parent) ≤ 4096) ⌝ }
+    requires { ⌜ (soundParents (now parent) ≡ true) × (length (now parent) ≤ maxCopies) ⌝ }
     requires { ⌜ (length (now parent) ≤ length (now p)) × (length (now parent) ≤ length (now sizes)) ⌝ }
     requires { ⌜ ((k : ℕ) → k < length (now parent) → getD (now sizes) k 0 ≡ 0) ⌝ }
-    ensures { λ r. ⌜ r ≡ largestSet (now (parent .entry)) ⌝ }
+    ensures { λ r. ⌜ r ≡ largestSet (old parent) ⌝ }
 {
     copy_in(parent, p);
     greatest_size(&mut p[..parent.len()], sizes)
@@ -86,8 +86,8 @@ fn largest_in(parent: &[u32], p: &mut [u32], sizes: &mut [u32]) -> u32
 
 // The size of the largest set with one root; 0 where there is no copy. The list is only read: the search is in a local copy.
 pub fn largest_set(parent: &[u32]) -> u32
-    requires { ⌜ (soundParents (now parent) ≡ true) × (length (now parent) ≤ 4096) ⌝ }
-    ensures { λ r. ⌜ r ≡ largestSet (now (parent .entry)) ⌝ }
+    requires { ⌜ (soundParents (now parent) ≡ true) × (length (now parent) ≤ maxCopies) ⌝ }
+    ensures { λ r. ⌜ r ≡ largestSet (old parent) ⌝ }
 {
     let mut p = [0u32; MAX_COPIES];
     let mut sizes = [0u32; MAX_COPIES];

@@ -1,6 +1,7 @@
 // The lines of a vector file.
 ghost use Prim.Native.Nat.{_≤_};
 ghost use lib.ListN.{length};
+ghost use Rattle.base.specs.Entry.{old};
 
 // What a line holds.
 pub(crate) enum Line {
@@ -20,7 +21,7 @@ enum Word {
 // Where the line ends that starts at `from`: at its newline, or where the text ends.
 pub(crate) fn line_end(text: &[u8], from: usize) -> usize
     requires { ⌜ from ≤ length (now text) ⌝ }
-    ensures { λ r. ⌜ (from ≤ r) × (r ≤ length (now (text .entry))) ⌝ }
+    ensures { λ r. ⌜ (from ≤ r) × (r ≤ length (old text)) ⌝ }
 {
     let mut at = from;
     while at < text.len() {

@@ -8,26 +8,36 @@ use Rattle.answers.proofs.Writing.{none-written, next-word}
 use Rattle.answers.proofs.report.Statement.{statement}
 use Rattle.answers.proofs.report.Tie as tie
 
+-- landmarks: from a place back to an earlier one. An `rw .. at` is told to open those that it meets, or it would rewrite inside the place.
+abbrev start : tie.After-a2 → tie.Start
+start c = c .before .before .before
+
+abbrev took : tie.After-word3 → tie.After-a2
+took c = c .before .before .before .before
+
+abbrev worded : tie.After-slice-known2 → tie.After-word4
+worded c = c .before .before .before .before .before
+
 word-requires : tie.Need-word-requires
-word-requires c κs = rw (c .before .a2 .given .1) at (c .before .before .before .before .pre 0)
+word-requires c κs = let a = c .before in rw (a .a2 .given .1, start) at (start a .pre 0)
 
 word-requires-2 : tie.Need-word-requires-2
-word-requires-2 c κs = rw (c .before .before .a2 .given .1) at (c .before .before .before .before .before .pre 1)
+word-requires-2 c κs = let a = c .before .before in rw (a .a2 .given .1, start) at (start a .pre 1)
 
 word-requires-3 : tie.Need-word-requires-3
-word-requires-3 c κs = rw (c .before .before .before .a2 .given .1) at (c .before .before .before .before .before .before .pre 2)
+word-requires-3 c κs = let a = c .before .before .before in rw (a .a2 .given .1, start) at (start a .pre 2)
 
 word-requires-4 : tie.Need-word-requires-4
-word-requires-4 c κs = rw (c .before .before .before .before .a2 .given .1) at (c .before .before .before .before .before .before .before .pre 3)
+word-requires-4 c κs = let a = took c in rw (a .a2 .given .1, start, took) at (start a .pre 3)
 
 returns : tie.Need-returns
 returns c = rw (c .before .a .given .1) (refl, none-written _)
 
 returns-2 : tie.Need-returns-2
 returns-2 c =
-    let st = c .before .before .before .before .before .before .before .before .before .before .before .before .before in
-    let last = c .before .before .before .before .before in
-    rw (c .before .before .before .before .before .before .before .before .before .before .a2 .given .1) (refl, c .before .before .words .ensures ∙ ap (λ (l : List ℕ). answersAfter l (st .args .answers .now)) (next-word (last .before .before .before .word .ensures) (next-word (last .before .before .word2 .ensures) (next-word (last .before .word3 .ensures) (next-word (last .word4 .ensures) refl)))))
+    let last = worded c in
+    let a = took (last .before) in
+    rw (a .a2 .given .1) (refl, c .before .before .words .ensures ∙ ap (λ (l : List ℕ). answersAfter l (start a .args .answers .now)) (next-word (last .before .before .before .word .ensures) (next-word (last .before .before .word2 .ensures) (next-word (last .before .word3 .ensures) (next-word (last .word4 .ensures) refl)))))
 
 pub report-spec : {M : Type 1} → statement M
 report-spec =

@@ -13,16 +13,22 @@ Inv-loop values answers₀ n i₀ answers i = Written values answers₀ i answer
 abbrev μ-loop : tie.MeasureT-loop
 μ-loop values answers₀ n i₀ answers i = n - i
 
+-- a landmark: from where the shorter length is known back to the start
+abbrev start : tie.After-min Inv-loop μ-loop → tie.Start Inv-loop μ-loop
+start c = c .before .before .before
+
 loop-again : tie.Need-loop-again Inv-loop μ-loop
 loop-again c =
-    let a = c .before .before .before .before .before .before .args in
-    let n = c .before .before .before .shorter .ensures in
+    let s = c .before .before .before in
+    let a = start s .args in
+    let n = s .min .ensures in
     written-next (a .values .now) (a .answers .now) (c .before .before .loop .i) (c .before .before .loop .answers) (omega arith) (c .before .before .loop .inv)
 
 returns : tie.Need-returns Inv-loop μ-loop
 returns c =
-    let a = c .before .before .before .before .before .args in
-    let n = c .before .before .shorter .ensures in
+    let s = c .before .before in
+    let a = start s .args in
+    let n = s .min .ensures in
     written-last (a .values .now) (a .answers .now) (c .before .loop .i) (c .before .loop .answers) (omega arith) (c .before .loop .inv)
 
 pub words-spec : {M : Type 1} → statement M

@@ -6,15 +6,9 @@ use Rattle.block.specs.Block.{floatAt}
 use Rattle.block.proofs.float.Statement.{statement}
 use Rattle.block.proofs.float.Tie as tie
 
-word-requires : tie.Need-word-requires
-word-requires c κs = search needs
-
-from-bits32-requires : tie.Need-from-bits32-requires
-from-bits32-requires c κs = search needs
-
 returns : tie.Need-returns
 unfolding floatAt
 returns c = c .from-bits32 .ensures ∙ ap (ofBits binary32) (c .before .word .ensures)
 
 pub float-spec : {M : Type 1} → statement M
-float-spec = tie.close (tie.spec word-requires from-bits32-requires returns)
+float-spec = tie.close (tie.spec (λ c κs. search needs) (λ c κs. search needs) returns)

@@ -14,9 +14,6 @@ use Rattle.block.proofs.Answers.{Room, cramped, no-block, no-room, read
 use Rattle.block.proofs.read_block.Statement.{statement}
 use Rattle.block.proofs.read_block.Tie as tie
 
-is-block-requires : tie.Need-is-block-requires
-is-block-requires c κs = search needs
-
 returns : tie.Need-returns
 returns c =
     let a = c .before .before .before .before .before .before .args in
@@ -34,12 +31,6 @@ count-requires-2 c κs = omega (arith, block-length _ (whole (c .before)))
 count-requires-3 : tie.Need-count-requires-3
 count-requires-3 c κs = omega (arith, block-length _ (whole (c .before .before)))
 
-mul-if2 : tie.Need-mul-if2
-mul-if2 c = search needs
-
-mul-if2-2 : tie.Need-mul-if2-2
-mul-if2-2 c = search needs
-
 -- the code's second test is the definition's
 tested : (c : tie.After-count3) → let a = c .before .before .before .before .before .before .before .before .before .args in (ltb (length (a .indices .now)) (c .before .count2 .result) || (ltb (length (a .solutes .now)) (c .before .before .count .result * 3) || ltb (length (a .waters .now)) (c .count3 .result * 3))) ≡ cramped (a .bytes .now) (a .indices .now) (a .solutes .now) (a .waters .now)
 tested c = rw (c .before .before .count .ensures .0, c .before .count2 .ensures .0, c .count3 .ensures .0)
@@ -52,29 +43,11 @@ returns-2 c =
 roomy : (c : tie.Else2) → let a = c .before .before .before .before .before .before .before .before .before .before .args in Room (a .bytes .now) (a .indices .now) (a .solutes .now) (a .waters .now)
 roomy c = room _ _ _ _ (sym (tested (c .before)) ∙ c .if2 .left)
 
-mul-first : tie.Need-mul-first
-mul-first c = search needs
-
-add-first : tie.Need-add-first
-add-first c = search needs
-
 read-words-requires : tie.Need-read-words-requires
 read-words-requires c κs = omega (arith, block-length _ (whole (c .before .before .before .before .before)), roomy (c .before), c .before .before .count3 .ensures, c .before .before .before .count2 .ensures, c .before .before .before .before .count .ensures)
 
-mul-read-floats : tie.Need-mul-read-floats
-mul-read-floats c = search needs
-
 read-floats-requires : tie.Need-read-floats-requires
 read-floats-requires c κs = omega (arith, block-length _ (whole (c .before .before .before .before .before .before .before .before .before)), roomy (c .before .before .before .before .before), c .before .before .before .before .before .before .count3 .ensures, c .before .before .before .before .before .before .before .count2 .ensures, c .before .before .before .before .before .before .before .before .count .ensures)
-
-mul-read-floats-2 : tie.Need-mul-read-floats-2
-mul-read-floats-2 c = search needs
-
-add-read-floats : tie.Need-add-read-floats
-add-read-floats c = search needs
-
-mul-read-floats-3 : tie.Need-mul-read-floats-3
-mul-read-floats-3 c = search needs
 
 read-floats-requires-2 : tie.Need-read-floats-requires-2
 read-floats-requires-2 c κs = omega (arith, block-length _ (whole (c .before .before .before .before .before .before .before .before .before .before .before .before .before)), roomy (c .before .before .before .before .before .before .before .before .before), c .before .before .before .before .before .before .before .before .before .before .count3 .ensures, c .before .before .before .before .before .before .before .before .before .before .before .count2 .ensures, c .before .before .before .before .before .before .before .before .before .before .before .before .count .ensures)
@@ -84,15 +57,6 @@ count-requires-4 c κs = omega (arith, block-length _ (whole (c .before .before 
 
 read-cell-requires : tie.Need-read-cell-requires
 read-cell-requires c κs = omega (arith, block-length _ (whole (c .before .before .before .before .before .before .before .before .before .before .before .before .before .before .before .before .before)), roomy (c .before .before .before .before .before .before .before .before .before .before .before .before .before), c .before .before .before .before .before .before .before .before .before .before .before .before .before .before .count3 .ensures, c .before .before .before .before .before .before .before .before .before .before .before .before .before .before .before .count2 .ensures, c .before .before .before .before .before .before .before .before .before .before .before .before .before .before .before .before .count .ensures)
-
-same-length : tie.Need-same-length
-same-length c = search needs
-
-same-length-2 : tie.Need-same-length-2
-same-length-2 c = search needs
-
-same-length-3 : tie.Need-same-length-3
-same-length-3 c = search needs
 
 returns-3 : tie.Need-returns-3
 unfolding indicesOf solutesOf watersOf
@@ -117,26 +81,26 @@ pub read-block-spec : {M : Type 1} → statement M
 read-block-spec =
     tie.close
     (tie.spec
-    is-block-requires
+    (λ c κs. search needs)
     returns
     count-requires
     count-requires-2
     count-requires-3
-    mul-if2
-    mul-if2-2
+    (λ c. search needs)
+    (λ c. search needs)
     returns-2
-    mul-first
-    add-first
+    (λ c. search needs)
+    (λ c. search needs)
     read-words-requires
-    mul-read-floats
+    (λ c. search needs)
     read-floats-requires
-    mul-read-floats-2
-    add-read-floats
-    mul-read-floats-3
+    (λ c. search needs)
+    (λ c. search needs)
+    (λ c. search needs)
     read-floats-requires-2
     count-requires-4
     read-cell-requires
-    same-length
-    same-length-2
-    same-length-3
+    (λ c. search needs)
+    (λ c. search needs)
+    (λ c. search needs)
     returns-3)

@@ -1,29 +1,11 @@
 -- `block::read_cell` meets its contract: six floats, each at its place. Assumes nothing.
 use borrow.Author.Needs.{needs}
-use Rattle.block.specs.Block.{cellOf}
+use Rattle.block.specs.Block.{blockCell}
 use Rattle.block.proofs.read_cell.Statement.{statement}
 use Rattle.block.proofs.read_cell.Tie as tie
 
-float-requires : tie.Need-float-requires
-float-requires c κs = search needs
-
-float-requires-2 : tie.Need-float-requires-2
-float-requires-2 c κs = search needs
-
-float-requires-3 : tie.Need-float-requires-3
-float-requires-3 c κs = search needs
-
-float-requires-4 : tie.Need-float-requires-4
-float-requires-4 c κs = search needs
-
-float-requires-5 : tie.Need-float-requires-5
-float-requires-5 c κs = search needs
-
-float-requires-6 : tie.Need-float-requires-6
-float-requires-6 c κs = search needs
-
 returns : tie.Need-returns
-unfolding cellOf
+unfolding blockCell
 returns c =
     rw (
       c .float6 .ensures,
@@ -38,10 +20,10 @@ pub read-cell-spec : {M : Type 1} → statement M
 read-cell-spec =
     tie.close
     (tie.spec
-    float-requires
-    float-requires-2
-    float-requires-3
-    float-requires-4
-    float-requires-5
-    float-requires-6
+    (λ c κs. search needs)
+    (λ c κs. search needs)
+    (λ c κs. search needs)
+    (λ c κs. search needs)
+    (λ c κs. search needs)
+    (λ c κs. search needs)
     returns)

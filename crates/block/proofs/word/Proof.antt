@@ -5,25 +5,10 @@ use Rattle.block.specs.Block.{wordAt}
 use Rattle.block.proofs.word.Statement.{statement}
 use Rattle.block.proofs.word.Tie as tie
 
-half-requires : tie.Need-half-requires
-half-requires c κs = search needs
-
-add-half : tie.Need-add-half
-add-half c = search needs
-
-half-requires-2 : tie.Need-half-requires-2
-half-requires-2 c κs = search needs
-
-mul-result : tie.Need-mul-result
-mul-result c = search needs
-
-add-result : tie.Need-add-result
-add-result c = search needs
-
 returns : tie.Need-returns
 unfolding wordAt
 returns c = omega arith
 
 pub word-spec : {M : Type 1} → statement M
 word-spec =
-    tie.close (tie.spec half-requires add-half half-requires-2 mul-result add-result returns)
+    tie.close (tie.spec (λ c κs. search needs) (λ c. search needs) (λ c κs. search needs) (λ c. search needs) (λ c. search needs) returns)

@@ -17,27 +17,6 @@ got c =
     read-frame _ (c .before .before .before .before .before .before .before .before .before .before .before .index-room .result) (c .before .before .before .before .before .before .before .before .before .before .atom-room .result) (c .before .before .before .before .before .before .before .before .before .atom-room2 .result) (search needs) (search needs) (search needs) _ _ _ _ _ _ _ _
     (rw (c .per .given .1) at (c .before .before .before .before .before .read-block .ensures))
 
-slice-aggregate-read-block : tie.Need-slice-aggregate-read-block
-slice-aggregate-read-block c = search needs
-
-slice-aggregate-read-block-2 : tie.Need-slice-aggregate-read-block-2
-slice-aggregate-read-block-2 c = search needs
-
-slice-aggregate-read-block-3 : tie.Need-slice-aggregate-read-block-3
-slice-aggregate-read-block-3 c = search needs
-
-read-block-requires : tie.Need-read-block-requires
-read-block-requires c κs = search needs
-
-enum-known-number : tie.Need-enum-known-number
-enum-known-number c = search needs
-
-put-refused-requires : tie.Need-put-refused-requires
-put-refused-requires c κs = search needs
-
-enum-known-per : tie.Need-enum-known-per
-enum-known-per c = search needs
-
 mul-solutes : tie.Need-mul-solutes
 mul-solutes c = omega (arith, counts-fit (got (c .before)))
 
@@ -62,18 +41,9 @@ array-share-prefix-waters c = search (needs, counts-fit (got (c .before .before 
 slice-aggregate-put-frame-3 : tie.Need-slice-aggregate-put-frame-3
 slice-aggregate-put-frame-3 c = sym (length-take-le _ _ (search (needs, counts-fit (got (c .before .before .before .before)))))
 
-put-frame-requires : tie.Need-put-frame-requires
-put-frame-requires c κs = search needs
-
-same-length : tie.Need-same-length
-same-length c = search needs
-
 returns : tie.Need-returns
 returns c =
     rw (← refused-14 _ (c .before .before .before .before .before .before .before .before .before .before .before .before .before .before .before .before .index-room .result) (c .before .before .before .before .before .before .before .before .before .before .before .before .before .before .before .atom-room .result) (c .before .before .before .before .before .before .before .before .before .before .before .before .before .before .atom-room2 .result) (search needs) (search needs) (search needs) _ _ _ _ (rw (c .before .before .before .before .before .number .given .1) at (c .before .before .before .before .before .before .before .before .before .before .read-block .ensures))) (c .before .before .put-refused .ensures)
-
-same-length-2 : tie.Need-same-length-2
-same-length-2 c = search needs
 
 returns-2 : tie.Need-returns-2
 returns-2 c = rw (text-read (got (c .before .before .before .before .before .before .before .before))) at (c .before .before .put-frame .ensures)
@@ -85,13 +55,13 @@ put-block-spec =
     (λ c κs. search needs)
     (λ c κs. search needs)
     (λ c κs. search needs)
-    slice-aggregate-read-block
-    slice-aggregate-read-block-2
-    slice-aggregate-read-block-3
-    read-block-requires
-    enum-known-number
-    put-refused-requires
-    enum-known-per
+    (λ c. search needs)
+    (λ c. search needs)
+    (λ c. search needs)
+    (λ c κs. search needs)
+    (λ c. search needs)
+    (λ c κs. search needs)
+    (λ c. search needs)
     mul-solutes
     array-share-prefix-solutes
     slice-aggregate-put-frame
@@ -100,8 +70,8 @@ put-block-spec =
     mul-waters
     array-share-prefix-waters
     slice-aggregate-put-frame-3
-    put-frame-requires
-    same-length
+    (λ c κs. search needs)
+    (λ c. search needs)
     returns
-    same-length-2
+    (λ c. search needs)
     returns-2)

@@ -10,12 +10,6 @@ use borrow.Author.Needs.{needs}
 use Rattle.block_text.proofs.put_text.Statement.{statement}
 use Rattle.block_text.proofs.put_text.Tie as tie
 
-put-block-requires : tie.Need-put-block-requires
-put-block-requires c κs = search needs
-
-enum-known-n : tie.Need-enum-known-n
-enum-known-n c = search needs
-
 enum-told : tie.Need-enum-told
 enum-told c = search needs
 
@@ -39,4 +33,4 @@ returns-2 c =
     absurd (omega (arith, never))
 
 pub put-text-spec : {M : Type 1} → statement M
-put-text-spec = tie.close (tie.spec put-block-requires enum-known-n enum-told returns returns-2)
+put-text-spec = tie.close (tie.spec (λ c κs. search needs) (λ c. search needs) enum-told returns returns-2)

@@ -5,12 +5,9 @@ use Rattle.cell.specs.Cell.{imageAxis}
 use Rattle.cell.proofs.image_axis.Statement.{statement}
 use Rattle.cell.proofs.image_axis.Tie as tie
 
-round32-requires : tie.Need-round32-requires
-round32-requires c κs = search needs
-
 returns : tie.Need-returns
 unfolding imageAxis
 returns c = rw (c .round32 .ensures)
 
 pub image-axis-spec : {M : Type 1} → statement M
-image-axis-spec = tie.close (tie.spec round32-requires returns)
+image-axis-spec = tie.close (tie.spec (λ c κs. search needs) returns)

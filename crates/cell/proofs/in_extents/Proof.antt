@@ -1,6 +1,6 @@
 -- `cell::in_extents` meets its contract: the code is the definition. Assumes nothing.
 use mathlib.Core.Path.{refl}
-use Rattle.cell.specs.Cell.{inExtents}
+use Rattle.cell.specs.Inner.{inExtents}
 use Rattle.cell.proofs.in_extents.Statement.{statement}
 use Rattle.cell.proofs.in_extents.Tie as tie
 

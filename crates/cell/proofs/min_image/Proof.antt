@@ -5,19 +5,10 @@ use Rattle.cell.specs.Cell.{minImage}
 use Rattle.cell.proofs.min_image.Statement.{statement}
 use Rattle.cell.proofs.min_image.Tie as tie
 
-image-axis-requires : tie.Need-image-axis-requires
-image-axis-requires c κs = search needs
-
-image-axis-requires-2 : tie.Need-image-axis-requires-2
-image-axis-requires-2 c κs = search needs
-
-image-axis-requires-3 : tie.Need-image-axis-requires-3
-image-axis-requires-3 c κs = search needs
-
 returns : tie.Need-returns
 unfolding minImage
 returns c = rw (c .image-axis3 .ensures, c .before .image-axis2 .ensures, c .before .before .image-axis .ensures)
 
 pub min-image-spec : {M : Type 1} → statement M
 min-image-spec =
-    tie.close (tie.spec image-axis-requires image-axis-requires-2 image-axis-requires-3 returns)
+    tie.close (tie.spec (λ c κs. search needs) (λ c κs. search needs) (λ c κs. search needs) returns)

@@ -1,6 +1,6 @@
 -- `cell::near_all` meets its contract, by those of the calls. Assumes nothing.
 use borrow.Author.Needs.{needs}
-use Rattle.cell.specs.Cell.{nearAll}
+use Rattle.cell.specs.Inner.{nearAll}
 use Rattle.cell.proofs.near_all.Statement.{statement}
 use Rattle.cell.proofs.near_all.Tie as tie
 

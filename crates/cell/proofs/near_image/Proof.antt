@@ -2,10 +2,11 @@
 use mathlib.Core.Path.{_≡_, ap}
 use mathlib.Core.Bool.{true, _&&_}
 use lib.Ieee.{Float, binary32, div}
-use Rattle.floats.specs.Whole.{nearZero}
+use Rattle.floats.specs.Inner.{nearZero}
 use Rattle.floats.proofs.Tests.{both}
 use Rattle.cell.specs.declared.Vec3.{Vec3}
-use Rattle.cell.specs.Cell.{minImage, inExtents, nearAll}
+use Rattle.cell.specs.Cell.{minImage}
+use Rattle.cell.specs.Inner.{inExtents, nearAll}
 use Rattle.cell.proofs.near_image.Statement.{statement}
 use Rattle.cell.proofs.near_image.Tie as tie
 

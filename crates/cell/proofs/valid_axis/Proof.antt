@@ -5,12 +5,9 @@ use Rattle.cell.specs.Cell.{validAxis}
 use Rattle.cell.proofs.valid_axis.Statement.{statement}
 use Rattle.cell.proofs.valid_axis.Tie as tie
 
-is-finite32-requires : tie.Need-is-finite32-requires
-is-finite32-requires c κs = search needs
-
 returns : tie.Need-returns
 unfolding validAxis
 returns c = rw (c .is-finite32 .ensures)
 
 pub valid-axis-spec : {M : Type 1} → statement M
-valid-axis-spec = tie.close (tie.spec is-finite32-requires returns)
+valid-axis-spec = tie.close (tie.spec (λ c κs. search needs) returns)

@@ -5,18 +5,6 @@ use Rattle.cell.specs.Cell.{wrap}
 use Rattle.cell.proofs.wrap.Statement.{statement}
 use Rattle.cell.proofs.wrap.Tie as tie
 
-extent-requires : tie.Need-extent-requires
-extent-requires c κs = search needs
-
-wrap-axis-requires : tie.Need-wrap-axis-requires
-wrap-axis-requires c κs = search needs
-
-wrap-axis-requires-2 : tie.Need-wrap-axis-requires-2
-wrap-axis-requires-2 c κs = search needs
-
-wrap-axis-requires-3 : tie.Need-wrap-axis-requires-3
-wrap-axis-requires-3 c κs = search needs
-
 returns : tie.Need-returns
 unfolding wrap
 returns c = rw (c .wrap-axis3 .ensures, c .before .wrap-axis2 .ensures, c .before .before .wrap-axis .ensures, c .before .before .before .extent .ensures)
@@ -24,4 +12,4 @@ returns c = rw (c .wrap-axis3 .ensures, c .before .wrap-axis2 .ensures, c .befor
 pub wrap-spec : {M : Type 1} → statement M
 wrap-spec =
     tie.close
-    (tie.spec extent-requires wrap-axis-requires wrap-axis-requires-2 wrap-axis-requires-3 returns)
+    (tie.spec (λ c κs. search needs) (λ c κs. search needs) (λ c κs. search needs) (λ c κs. search needs) returns)

@@ -5,12 +5,9 @@ use Rattle.cell.specs.Cell.{wrapAxis}
 use Rattle.cell.proofs.wrap_axis.Statement.{statement}
 use Rattle.cell.proofs.wrap_axis.Tie as tie
 
-floor32-requires : tie.Need-floor32-requires
-floor32-requires c κs = search needs
-
 returns : tie.Need-returns
 unfolding wrapAxis
 returns c = rw (c .floor32 .ensures)
 
 pub wrap-axis-spec : {M : Type 1} → statement M
-wrap-axis-spec = tie.close (tie.spec floor32-requires returns)
+wrap-axis-spec = tie.close (tie.spec (λ c κs. search needs) returns)

@@ -17,9 +17,6 @@ Inv-loop cell xs picks anchor sum₀ j₀ sum j = (j ≤ length picks) × (sumFr
 abbrev μ-loop : tie.MeasureT-loop
 μ-loop cell xs picks anchor sum₀ j₀ sum j = length picks - j
 
-shared-slice-read-point : tie.Need-shared-slice-read-point Inv-loop μ-loop
-shared-slice-read-point c = search needs
-
 -- a pick is an index, whichever it is
 wide : (n : ℕ) → Fits w32 n → Fits w64 n
 wide n h = omega arith
@@ -30,18 +27,9 @@ cast-point c = wide _ (c .shared-slice-known3 .given _)
 point-requires : tie.Need-point-requires Inv-loop μ-loop
 point-requires c κs = c .before .before .before .pre .1 _ (search needs)
 
-wrap-requires : tie.Need-wrap-requires Inv-loop μ-loop
-wrap-requires c κs = search needs
-
 loop-holds : tie.Need-loop-holds Inv-loop μ-loop
 unfolding anchorOf
 loop-holds c = (search needs, refl, rw (c .wrap .ensures, c .before .point .ensures))
-
-mul-point : tie.Need-mul-point Inv-loop μ-loop
-mul-point c = search needs
-
-shared-slice-read-point-2 : tie.Need-shared-slice-read-point-2 Inv-loop μ-loop
-shared-slice-read-point-2 c = search needs
 
 cast-point-2 : tie.Need-cast-point-2 Inv-loop μ-loop
 cast-point-2 c = wide _ (c .shared-slice-known4 .given _)
@@ -52,18 +40,6 @@ point-requires-2 c κs =
     let st = at .before .before .before .before .before in
     st .before .pre .1 (at .loop .j) (c .before .loop-test .taken)
 
-beside-requires : tie.Need-beside-requires Inv-loop μ-loop
-beside-requires c κs = search needs
-
-add-requires : tie.Need-add-requires Inv-loop μ-loop
-add-requires c κs = search needs
-
-add-j : tie.Need-add-j Inv-loop μ-loop
-add-j c = search needs
-
-loop-less : tie.Need-loop-less Inv-loop μ-loop
-loop-less c = search needs
-
 loop-again : tie.Need-loop-again Inv-loop μ-loop
 unfolding unwrapped
 loop-again c =
@@ -72,12 +48,6 @@ loop-again c =
     let st = at .before .before .before .before .before .before in
     let next = sum-more (st .args .cell) (st .args .xs .now) (at .before .wrap .result) (at .loop .sum) (st .args .picks .now) (at .loop .j) (inside .loop-test .taken) in
     (search needs, rw (c .add .ensures, c .before .beside .ensures, c .before .before .point2 .ensures) (sym next ∙ at .loop .inv .1), at .loop .inv .2)
-
-divide-requires : tie.Need-divide-requires Inv-loop μ-loop
-divide-requires c κs = search needs
-
-wrap-requires-2 : tie.Need-wrap-requires-2 Inv-loop μ-loop
-wrap-requires-2 c κs = search needs
 
 returns : tie.Need-returns Inv-loop μ-loop
 unfolding centerOf
@@ -93,20 +63,20 @@ center-spec =
     (tie.spec
     Inv-loop
     μ-loop
-    shared-slice-read-point
+    (λ c. search needs)
     cast-point
     point-requires
-    wrap-requires
+    (λ c κs. search needs)
     loop-holds
-    mul-point
-    shared-slice-read-point-2
+    (λ c. search needs)
+    (λ c. search needs)
     cast-point-2
     point-requires-2
-    beside-requires
-    add-requires
-    add-j
-    loop-less
+    (λ c κs. search needs)
+    (λ c κs. search needs)
+    (λ c. search needs)
+    (λ c. search needs)
     loop-again
-    divide-requires
-    wrap-requires-2
+    (λ c κs. search needs)
+    (λ c κs. search needs)
     returns)

@@ -2,48 +2,41 @@
 use mathlib.Core.List.{[]}
 use native.Mathlib.Omega.{arith}
 use borrow.Author.Needs.{needs}
+use Rattle.pick_lists.specs.Input.{Input, given}
 use Rattle.pick_lists.proofs.SoundLists.{sound-lists}
-use Rattle.centers.proofs.Answers.{sound-input, centers-input, centers-short, centers-fit}
+use Rattle.pick_lists.proofs.InputRefusals.{sound-input}
+use Rattle.centers.proofs.Answers.{centers-input, centers-short, centers-fit}
 use Rattle.centers.proofs.centers.Statement.{statement}
 use Rattle.centers.proofs.centers.Tie as tie
 
-slice-aggregate-input-refusal : tie.Need-slice-aggregate-input-refusal
-slice-aggregate-input-refusal c = search needs
-
-input-refusal-requires : tie.Need-input-refusal-requires
-input-refusal-requires c κs = search needs
+abbrev input : tie.Start → Input
+input st = given (st .args .cell) (st .args .solutes .now) [] (st .args .starts .now) (st .args .picks .now)
 
 returns : tie.Need-returns
 returns c =
     let st = c .before .before .before .before .before .before .before in
     let r = c .before .input-refusal in
-    centers-input (st .args .cell) (st .args .solutes .now) (st .args .starts .now) (st .args .picks .now) (st .args .centers .now) (r .result) (r .ensures) (c .if1 .taken)
+    centers-input (input st) (st .args .centers .now) (r .result) (r .ensures) (c .if1 .taken)
 
 sub-if2 : tie.Need-sub-if2
 sub-if2 c =
     let st = c .before .before .before .before .before .before .before in
     let r = c .before .input-refusal in
-    let sound = sound-input (st .args .cell) (st .args .solutes .now) [] (st .args .starts .now) (st .args .picks .now) (r .result) (r .ensures) (c .if1 .left) in
+    let sound = sound-input (input st) (r .result) (r .ensures) (c .if1 .left) in
     omega (arith, sound-lists (st .args .solutes .now) (st .args .starts .now) (st .args .picks .now) sound .number)
-
-mul-if2 : tie.Need-mul-if2
-mul-if2 c = search needs
 
 returns-2 : tie.Need-returns-2
 returns-2 c =
     let st = c .before .before .before .before .before .before .before .before in
     let r = c .before .before .input-refusal in
-    centers-short (st .args .cell) (st .args .solutes .now) (st .args .starts .now) (st .args .picks .now) (st .args .centers .now) (r .result) (r .ensures) (c .before .if1 .left) (c .if2 .taken)
+    centers-short (input st) (st .args .centers .now) (r .result) (r .ensures) (c .before .if1 .left) (c .if2 .taken)
 
 put-centers-requires : tie.Need-put-centers-requires
 put-centers-requires c κs =
     let st = c .before .before .before .before .before .before .before .before .before in
     let fits = c .before in
     let r = fits .before .before .input-refusal in
-    (sound-input (st .args .cell) (st .args .solutes .now) [] (st .args .starts .now) (st .args .picks .now) (r .result) (r .ensures) (fits .before .if1 .left), fits .if2 .left)
-
-same-length : tie.Need-same-length
-same-length c = search needs
+    (sound-input (input st) (r .result) (r .ensures) (fits .before .if1 .left), fits .if2 .left)
 
 returns-3 : tie.Need-returns-3
 returns-3 c =
@@ -51,18 +44,18 @@ returns-3 c =
     let put = c .before .before in
     let fits = put .before .before in
     let r = fits .before .before .input-refusal in
-    centers-fit (st .args .cell) (st .args .solutes .now) (st .args .starts .now) (st .args .picks .now) (st .args .centers .now) (r .result) (r .ensures) (fits .before .if1 .left) (fits .if2 .left) _ (put .put-centers .ensures)
+    centers-fit (input st) (st .args .centers .now) (r .result) (r .ensures) (fits .before .if1 .left) (fits .if2 .left) _ (put .put-centers .ensures)
 
 pub centers-spec : {M : Type 1} → statement M
 centers-spec =
     tie.close
     (tie.spec
-    slice-aggregate-input-refusal
-    input-refusal-requires
+    (λ c. search needs)
+    (λ c κs. search needs)
     returns
     sub-if2
-    mul-if2
+    (λ c. search needs)
     returns-2
     put-centers-requires
-    same-length
+    (λ c. search needs)
     returns-3)

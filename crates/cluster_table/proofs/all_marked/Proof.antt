@@ -7,7 +7,7 @@ use lib.Dec.{eqb}
 use borrow.Author.Count.{below-none, below-more}
 use borrow.Author.Tests.{eq-eqb, ne-eqb}
 use Rattle.cluster_table.specs.Table.{mark}
-use Rattle.union_find.proofs.Ranges.{all-true, all-false}
+use Rattle.base.proofs.Ranges.{all-true, all-false}
 use Rattle.cluster_table.proofs.all_marked.Statement.{statement}
 use Rattle.cluster_table.proofs.all_marked.Tie as tie
 

@@ -5,9 +5,9 @@ use Prim.Native.Nat.{_-_, _≤_, zero-le}
 use native.Mathlib.Omega.{arith}
 use lib.Dec.{ltb}
 use borrow.Author.Tests.{lt-ltb, le-ltb}
-use Rattle.union_find.specs.Range.{count}
+use Rattle.base.specs.Range.{count}
 use Rattle.cluster_table.specs.Table.{degree}
-use Rattle.union_find.proofs.Ranges.{count-none, count-hit, count-miss, count-end}
+use Rattle.base.proofs.Ranges.{count-none, count-hit, count-miss, count-end}
 use Rattle.cluster_table.proofs.contacted.Statement.{statement}
 use Rattle.cluster_table.proofs.contacted.Tie as tie
 

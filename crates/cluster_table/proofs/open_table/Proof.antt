@@ -1,116 +1,103 @@
--- `cluster_table::open_table` meets its contract. First loop: i parents are written, and from word 2 + i on the table is as it was;
--- measure n - i. Second loop: k zeros follow the n parents; measure 2 n - k. Each turn writes at the seam of the part that is
--- done (Fills). Assumes nothing.
-use mathlib.Core.Path.{_≡_, refl, _∙_}
-use mathlib.Core.List.{_∷_, _++_}
-use Prim.Native.Nat.{_+_, _-_, _≤_, zero-le}
+-- `cluster_table::open_table` meets its contract: each write is the next entry of an opened table (`Filling`). First loop: i parents are written;
+-- measure n - i. Second loop: k zeros follow the n parents; measure 2 n - k. Assumes nothing.
+use mathlib.Core.Path.{_≡_, refl, subst, _∙_}
+use mathlib.Core.List.{List}
+use Prim.Native.Nat.{ℕ, _+_, _-_, _≤_, zero-le}
+use native.Mathlib.Nat.{add-assoc, add-zero}
 use native.Mathlib.Omega.{arith}
-use lib.ListN.{length, drop, replicate, length-set}
-use Rattle.cluster_table.specs.Table.{upFrom}
-use Rattle.cluster_table.proofs.Fills.{heads, more-parents, more-zeros, zeros-first, filled, start-length}
+use lib.ListN.{length, drop, set, length-set}
+use Rattle.base.proofs.Filling.{Filling, filling-first, filling-at, filling-all}
+use Rattle.cluster_table.specs.Table.{header, opened}
+use Rattle.cluster_table.proofs.Fills.{whole, whole-length, parent-at, zero-at}
 use borrow.Author.Needs.{needs}
 use Rattle.cluster_table.proofs.open_table.Statement.{statement}
 use Rattle.cluster_table.proofs.open_table.Tie as tie
 
+headed : (t : List ℕ) (n : ℕ) → length (set (set t 0 n) 1 0) ≡ length t
+headed t n = simp length-set
+
+-- the first e words of an opened table are written over t₀
+abbrev Written : ℕ → List ℕ → ℕ → List ℕ → Type 0
+Written n t₀ e t = Filling 0 (whole n) t₀ e (drop e (whole n)) t
+
 abbrev Inv-loop : tie.InvT-loop
-Inv-loop table₀ n i₀ table i = (i ≤ n) × (length table ≡ length table₀) × (table ≡ n ∷ 0 ∷ (upFrom i 0 ++ drop (2 + i) table₀))
+Inv-loop table₀ n i₀ table i = (i ≤ n) × (length table ≡ length table₀) × ((t : List ℕ) → Written n t header table₀ → Written n t (header + i) table)
 
 abbrev μ-loop : tie.MeasureT-loop
 μ-loop table₀ n i₀ table i = n - i
 
 abbrev Inv-loop2 : tie.InvT-loop2
 Inv-loop2 table₀ n i k₀ table k =
-    (k ≤ n + n) × (length table ≡ length table₀) × (table ≡ n ∷ 0 ∷ (upFrom n 0 ++ (replicate k 0 ++ drop (2 + n + k) table₀)))
+    (k ≤ n + n) × (length table ≡ length table₀) × ((t : List ℕ) → Written n t (header + n) table₀ → Written n t (header + n + k) table)
 
 abbrev μ-loop2 : tie.MeasureT-loop2
 μ-loop2 table₀ n i k₀ table k = n + n - k
 
-cast-table : tie.Need-cast-table Inv-loop μ-loop Inv-loop2 μ-loop2
-cast-table c = search needs
+-- landmarks: from a place back to an earlier one
+abbrev turned : tie.At-loop2 Inv-loop μ-loop Inv-loop2 μ-loop2 → tie.At-loop Inv-loop μ-loop Inv-loop2 μ-loop2
+turned c = c .before .before
 
-slice-write-table : tie.Need-slice-write-table Inv-loop μ-loop Inv-loop2 μ-loop2
-slice-write-table c = search needs
+abbrev startOf : tie.At-loop2 Inv-loop μ-loop Inv-loop2 μ-loop2 → tie.Start Inv-loop μ-loop Inv-loop2 μ-loop2
+startOf c = turned c .before
 
 slice-write-table-2 : tie.Need-slice-write-table-2 Inv-loop μ-loop Inv-loop2 μ-loop2
 slice-write-table-2 c = simp length-set (omega arith)
 
 loop-holds : tie.Need-loop-holds Inv-loop μ-loop Inv-loop2 μ-loop2
-loop-holds c = (zero-le, refl, heads (c .args .table .now) (c .args .n) (omega arith))
-
-cast-table-2 : tie.Need-cast-table-2 Inv-loop μ-loop Inv-loop2 μ-loop2
-cast-table-2 c = search needs
-
-add-table : tie.Need-add-table Inv-loop μ-loop Inv-loop2 μ-loop2
-add-table c = search needs
-
-mul-table : tie.Need-mul-table Inv-loop μ-loop Inv-loop2 μ-loop2
-mul-table c = search needs
+loop-holds c = (zero-le, refl, λ t w. w)
 
 slice-write-table-3 : tie.Need-slice-write-table-3 Inv-loop μ-loop Inv-loop2 μ-loop2
 slice-write-table-3 c =
     let st = c .before .before in
-    let z = start-length (st .args .table .now) (st .args .n) in
+    let z = headed (st .args .table .now) (st .args .n) in
     omega (arith, c .before .loop .inv .1)
-
-add-i : tie.Need-add-i Inv-loop μ-loop Inv-loop2 μ-loop2
-add-i c = search needs
-
-loop-less : tie.Need-loop-less Inv-loop μ-loop Inv-loop2 μ-loop2
-loop-less c = search needs
 
 loop-again : tie.Need-loop-again Inv-loop μ-loop Inv-loop2 μ-loop2
 loop-again c =
     let st = c .before .before in
-    let z = start-length (st .args .table .now) (st .args .n) in
-    (omega arith, simp length-set (c .before .loop .inv .1 ∙ z), more-parents _ _ _ _ (c .before .loop .inv .2) (omega (arith, c .before .loop .inv .1)))
+    let a = c .before .loop in
+    let n = st .args .n in (
+      omega arith,
+      length-set (a .table) (header + a .i) (a .i) ∙ a .inv .1,
+      λ t w. subst (λ (e : ℕ). Written n t e (set (a .table) (header + a .i) (a .i))) (add-assoc header (a .i) 1)
+          (filling-at 0 (a .inv .2 t w) (omega (arith, whole-length n)) (parent-at n (a .i) (omega arith))),
+    )
 
 loop2-holds : tie.Need-loop2-holds Inv-loop μ-loop Inv-loop2 μ-loop2
-loop2-holds c =
-    let e : c .before .loop .i ≡ c .before .before .args .n = omega arith in
-    (zero-le, refl, zeros-first _ _ _ (rw e at (c .before .loop .inv .2)))
-
-add-loop2 : tie.Need-add-loop2 Inv-loop μ-loop Inv-loop2 μ-loop2
-add-loop2 c = search needs
-
-add-table-2 : tie.Need-add-table-2 Inv-loop μ-loop Inv-loop2 μ-loop2
-add-table-2 c = search needs
-
-add-table-3 : tie.Need-add-table-3 Inv-loop μ-loop Inv-loop2 μ-loop2
-add-table-3 c = search needs
-
-mul-table-2 : tie.Need-mul-table-2 Inv-loop μ-loop Inv-loop2 μ-loop2
-mul-table-2 c = search needs
+loop2-holds c = (zero-le, refl, λ t w. rw add-zero w)
 
 slice-write-table-4 : tie.Need-slice-write-table-4 Inv-loop μ-loop Inv-loop2 μ-loop2
 slice-write-table-4 c =
-    let st = c .before .before .before .before in
-    let z = start-length (st .args .table .now) (st .args .n) in
-    omega (arith, c .before .before .before .loop .inv .1, c .before .loop2 .inv .1)
-
-add-k : tie.Need-add-k Inv-loop μ-loop Inv-loop2 μ-loop2
-add-k c = search needs
-
-loop2-less : tie.Need-loop2-less Inv-loop μ-loop Inv-loop2 μ-loop2
-loop2-less c = search needs
+    let st = startOf (c .before) in
+    let z = headed (st .args .table .now) (st .args .n) in
+    omega (arith, turned (c .before) .loop .inv .1, c .before .loop2 .inv .1)
 
 loop2-again : tie.Need-loop2-again Inv-loop μ-loop Inv-loop2 μ-loop2
 loop2-again c =
-    let st = c .before .before .before .before in
-    let z = start-length (st .args .table .now) (st .args .n) in
-    (omega arith, simp length-set (c .before .loop2 .inv .1), more-zeros _ _ _ _ (c .before .loop2 .inv .2) (omega (arith, c .before .before .before .loop .inv .1, c .before .loop2 .inv .1)))
+    let st = startOf (c .before) in
+    let a = c .before .loop2 in
+    let n = st .args .n in (
+      omega arith,
+      length-set (a .table) (header + n + a .k) 0 ∙ a .inv .1,
+      λ t w. subst (λ (e : ℕ). Written n t e (set (a .table) (header + n + a .k) 0)) (add-assoc (header + n) (a .k) 1)
+          (filling-at 0 (a .inv .2 t w) (omega (arith, whole-length n)) (zero-at n (a .k) (omega arith))),
+    )
 
 same-length : tie.Need-same-length Inv-loop μ-loop Inv-loop2 μ-loop2
 same-length c =
-    let st = c .before .before .before .before in
-    let z = start-length (st .args .table .now) (st .args .n) in
-    c .before .loop2 .inv .1 ∙ c .before .before .before .loop .inv .1 ∙ z
+    let st = startOf (c .before) in
+    c .before .loop2 .inv .1 ∙ turned (c .before) .loop .inv .1 ∙ headed (st .args .table .now) (st .args .n)
 
 returns : tie.Need-returns Inv-loop μ-loop Inv-loop2 μ-loop2
+unfolding opened
 returns c =
-    let st = c .before .before .before .before in
-    let e : c .before .before .before .loop .i ≡ st .args .n = omega arith in
-    let d : c .before .loop2 .k ≡ st .args .n + st .args .n = omega arith in
-    filled (st .args .n) (st .args .table .now) _ _ (rw e at (c .before .before .before .loop .inv .2)) (rw d at (c .before .loop2 .inv .2))
+    let st = startOf (c .before) in
+    let n = st .args .n in
+    let e : turned (c .before) .loop .i ≡ n = omega arith in
+    let t = st .args .table .now in
+    let first : Written n t header (set (set t 0 n) 1 0) = filling-at 0 (filling-at 0 (filling-first (omega (arith, whole-length n))) (omega (arith, whole-length n)) refl) (omega (arith, whole-length n)) refl in
+    let parents = subst (λ (i : ℕ). Written n t (header + i) (turned (c .before) .loop .table)) e (turned (c .before) .loop .inv .2 t first) in
+    filling-all (c .before .loop2 .inv .2 t parents) (omega (arith, whole-length n))
 
 pub open-table-spec : {M : Type 1} → statement M
 open-table-spec =
@@ -120,25 +107,25 @@ open-table-spec =
     μ-loop
     Inv-loop2
     μ-loop2
-    cast-table
-    slice-write-table
+    (λ c. search needs)
+    (λ c. search needs)
     slice-write-table-2
     loop-holds
-    cast-table-2
-    add-table
-    mul-table
+    (λ c. search needs)
+    (λ c. search needs)
+    (λ c. search needs)
     slice-write-table-3
-    add-i
-    loop-less
+    (λ c. search needs)
+    (λ c. search needs)
     loop-again
     loop2-holds
-    add-loop2
-    add-table-2
-    add-table-3
-    mul-table-2
+    (λ c. search needs)
+    (λ c. search needs)
+    (λ c. search needs)
+    (λ c. search needs)
     slice-write-table-4
-    add-k
-    loop2-less
+    (λ c. search needs)
+    (λ c. search needs)
     loop2-again
     same-length
     returns)

@@ -8,14 +8,8 @@ use Rattle.cluster_table.proofs.pair_count.Tie as tie
 returns : tie.Need-returns
 returns c = rw (c .if1 .taken)
 
-sub-result : tie.Need-sub-result
-sub-result c = search needs
-
 mul-result : tie.Need-mul-result
 mul-result c = fits-le (pairs-few _ (c .before .pre)) (fits-lit tt)
 
-returns-2 : tie.Need-returns-2
-returns-2 c = search needs
-
 pub pair-count-spec : {M : Type 1} → statement M
-pair-count-spec = tie.close (tie.spec returns sub-result mul-result returns-2)
+pair-count-spec = tie.close (tie.spec returns (λ c. search needs) mul-result (λ c. search needs))

@@ -8,14 +8,24 @@ use borrow.Author.Needs.{needs}
 use Rattle.clusters.proofs.close.Statement.{statement}
 use Rattle.clusters.proofs.close.Tie as tie
 
+-- landmarks: from a place back to an earlier one
+abbrev words : tie.Else2 → tie.Else1
+words c = c .before .before .before
+
+abbrev long : tie.Else3 → tie.Else2
+long c = c .before
+
+abbrev few : tie.Else4 → tie.Else3
+few c = c .before .before
+
+abbrev sound : tie.Else5 → tie.Else4
+sound c = c .before .before
+
+abbrev marked : tie.After-fractions → tie.Else5
+marked c = c .before
+
 returns : tie.Need-returns
 returns c = no-words _ (c .if1 .taken)
-
-shared-slice-read-wide : tie.Need-shared-slice-read-wide
-shared-slice-read-wide c = search needs
-
-wide-requires : tie.Need-wide-requires
-wide-requires c κs = search needs
 
 mul-if2 : tie.Need-mul-if2
 mul-if2 c = omega (arith, c .before .shared-slice-known2 .given 0, c .wide .ensures)
@@ -31,44 +41,38 @@ returns-2 c =
 returns-3 : tie.Need-returns-3
 returns-3 c =
     let e2 = c .before in
-    let e1 = e2 .before .before .before in
+    let e1 = words e2 in
     many-copies _ _ (e2 .before .wide .ensures) (e1 .if1 .left) (e2 .if2 .left) (c .if3 .taken)
-
-is-sound-requires : tie.Need-is-sound-requires
-is-sound-requires c κs = search needs
 
 returns-4 : tie.Need-returns-4
 returns-4 c =
     let e3 = c .before .before in
-    let e2 = e3 .before in
-    let e1 = e2 .before .before .before in
+    let e2 = long e3 in
+    let e1 = words e2 in
     unsound _ _ (e2 .before .wide .ensures) (e1 .if1 .left) (e2 .if2 .left) (e3 .if3 .left) _ (c .before .is-sound .ensures) (c .if4 .taken)
-
-all-marked-requires : tie.Need-all-marked-requires
-all-marked-requires c κs = search needs
 
 returns-5 : tie.Need-returns-5
 returns-5 c =
     let e4 = c .before .before in
-    let e3 = e4 .before .before in
-    let e2 = e3 .before in
-    let e1 = e2 .before .before .before in
+    let e3 = few e4 in
+    let e2 = long e3 in
+    let e1 = words e2 in
     waits _ _ (e2 .before .wide .ensures) (e1 .if1 .left) (e2 .if2 .left) (e3 .if3 .left) _ (e4 .before .is-sound .ensures) (e4 .if4 .left)
     _ (c .before .all-marked .ensures) (c .if5 .taken)
 
 fractions-requires : tie.Need-fractions-requires
 fractions-requires c κs =
-    let e4 = c .before .before in
-    let e3 = e4 .before .before in
-    ((e3 .if3 .left, e3 .before .if2 .left), sym (e4 .before .is-sound .ensures) ∙ not-false _ (e4 .if4 .left))
+    let e4 = sound c in
+    let e3 = few e4 in
+    ((e3 .if3 .left, long e3 .if2 .left), sym (e4 .before .is-sound .ensures) ∙ not-false _ (e4 .if4 .left))
 
 returns-6 : tie.Need-returns-6
 returns-6 c =
-    let e5 = c .before in
-    let e4 = e5 .before .before in
-    let e3 = e4 .before .before in
-    let e2 = e3 .before in
-    let e1 = e2 .before .before .before in
+    let e5 = marked c in
+    let e4 = sound e5 in
+    let e3 = few e4 in
+    let e2 = long e3 in
+    let e1 = words e2 in
     gives _ _ (e2 .before .wide .ensures) (e1 .if1 .left) (e2 .if2 .left) (e3 .if3 .left) _ (e4 .before .is-sound .ensures) (e4 .if4 .left)
     _ (e5 .before .all-marked .ensures) (e5 .if5 .left) _ (c .fractions .ensures)
 
@@ -77,15 +81,15 @@ close-spec =
     tie.close
     (tie.spec
     returns
-    shared-slice-read-wide
-    wide-requires
+    (λ c. search needs)
+    (λ c κs. search needs)
     mul-if2
     add-if2
     returns-2
     returns-3
-    is-sound-requires
+    (λ c κs. search needs)
     returns-4
-    all-marked-requires
+    (λ c κs. search needs)
     returns-5
     fractions-requires
     returns-6)

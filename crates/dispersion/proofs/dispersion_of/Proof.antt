@@ -1,25 +1,21 @@
 -- `dispersion::dispersion_of` meets its contract. `put_centers` leaves the centers before what the array held, and `score` reads no further. Assumes nothing.
+use mathlib.Core.List.{[]}
 use native.Mathlib.Omega.{arith}
 use borrow.Author.Needs.{needs}
+use Rattle.pick_lists.specs.Input.{Input, given}
 use Rattle.pick_lists.proofs.SoundLists.{sound-lists}
 use Rattle.dispersion.proofs.ScoreList.{listed-room, listed-score}
 use Rattle.dispersion.proofs.dispersion_of.Statement.{statement}
 use Rattle.dispersion.proofs.dispersion_of.Tie as tie
 
-slice-aggregate-put-centers : tie.Need-slice-aggregate-put-centers
-slice-aggregate-put-centers c = search needs
+abbrev input : tie.Start → Input
+input st = given (st .args .cell) (st .args .xs .now) [] (st .args .starts .now) (st .args .picks .now)
 
 put-centers-requires : tie.Need-put-centers-requires
 put-centers-requires c κs =
     let st = c .before .before .before .before .before in
     let l = sound-lists (st .args .xs .now) (st .args .starts .now) (st .args .picks .now) (st .pre) in
     (st .pre, omega (arith, l .few))
-
-extent-requires : tie.Need-extent-requires
-extent-requires c κs = search needs
-
-slice-aggregate-score : tie.Need-slice-aggregate-score
-slice-aggregate-score c = search needs
 
 sub-score : tie.Need-sub-score
 sub-score c =
@@ -30,22 +26,22 @@ sub-score c =
 score-requires : tie.Need-score-requires
 score-requires c κs =
     let st = c .before .before .before .before .before .before .before .before .before in
-    (listed-room (st .args .cell) (st .args .xs .now) (st .args .starts .now) (st .args .picks .now) _ _ (c .before .before .before .put-centers .ensures), sound-lists (st .args .xs .now) (st .args .starts .now) (st .args .picks .now) (st .pre) .few)
+    (listed-room (input st) _ _ (c .before .before .before .put-centers .ensures), sound-lists (st .args .xs .now) (st .args .starts .now) (st .args .picks .now) (st .pre) .few)
 
 returns : tie.Need-returns
 returns c =
     let st = c .before .before .before .before .before .before .before .before .before .before in
-    rw (c .score .ensures, c .before .before .extent .ensures) (listed-score (st .args .cell) (st .args .xs .now) (st .args .starts .now) (st .args .picks .now) _ _ (c .before .before .before .before .put-centers .ensures))
+    rw (c .score .ensures, c .before .before .extent .ensures) (listed-score (input st) _ _ (c .before .before .before .before .put-centers .ensures))
 
 pub dispersion-of-spec : {M : Type 1} → statement M
 dispersion-of-spec =
     tie.close
     (tie.spec
     (λ c κs. search needs)
-    slice-aggregate-put-centers
+    (λ c. search needs)
     put-centers-requires
-    extent-requires
-    slice-aggregate-score
+    (λ c κs. search needs)
+    (λ c. search needs)
     sub-score
     score-requires
     returns)

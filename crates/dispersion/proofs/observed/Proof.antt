@@ -9,14 +9,8 @@ use Rattle.dispersion.proofs.ScoreList.{few-pairs}
 use Rattle.dispersion.proofs.observed.Statement.{statement}
 use Rattle.dispersion.proofs.observed.Tie as tie
 
-sub-pairs : tie.Need-sub-pairs
-sub-pairs c = search needs
-
 mul-pairs : tie.Need-mul-pairs
 mul-pairs c = omega (arith, few-pairs (c .before .args .n) (c .before .pre .2))
-
-pair-sum-requires : tie.Need-pair-sum-requires
-pair-sum-requires c κs = search needs
 
 int-to-float-sqrt64 : tie.Need-int-to-float-sqrt64
 unfolding inFloat
@@ -24,12 +18,6 @@ int-to-float-sqrt64 c =
     let st = c .before .before .before in
     let n = st .args .n in
     le→leb (n * (n - 1) / 2) (2 ^ 53) (omega (arith, few-pairs n (st .pre .2)))
-
-sqrt64-requires : tie.Need-sqrt64-requires
-sqrt64-requires c κs = search needs
-
-narrow-requires : tie.Need-narrow-requires
-narrow-requires c κs = search needs
 
 returns : tie.Need-returns
 unfolding observedOf
@@ -39,10 +27,10 @@ pub observed-spec : {M : Type 1} → statement M
 observed-spec =
     tie.close
     (tie.spec
-    sub-pairs
+    (λ c. search needs)
     mul-pairs
-    pair-sum-requires
+    (λ c κs. search needs)
     int-to-float-sqrt64
-    sqrt64-requires
-    narrow-requires
+    (λ c κs. search needs)
+    (λ c κs. search needs)
     returns)

@@ -14,30 +14,6 @@ Inv-loop e centers n i s a sum₀ j₀ sum j = (a ≡ pointAt centers i) × (i <
 abbrev μ-loop : tie.MeasureT-loop
 μ-loop e centers n i s a sum₀ j₀ sum j = n - j
 
-point-requires : tie.Need-point-requires Inv-loop μ-loop
-point-requires c κs = search needs
-
-add-j : tie.Need-add-j Inv-loop μ-loop
-add-j c = search needs
-
-loop-holds : tie.Need-loop-holds Inv-loop μ-loop
-loop-holds c = search needs
-
-point-requires-2 : tie.Need-point-requires-2 Inv-loop μ-loop
-point-requires-2 c κs = search needs
-
-distance-squared-requires : tie.Need-distance-squared-requires Inv-loop μ-loop
-distance-squared-requires c κs = search needs
-
-widen-requires : tie.Need-widen-requires Inv-loop μ-loop
-widen-requires c κs = search needs
-
-add-j-2 : tie.Need-add-j-2 Inv-loop μ-loop
-add-j-2 c = search needs
-
-loop-less : tie.Need-loop-less Inv-loop μ-loop
-loop-less c = search needs
-
 loop-again : tie.Need-loop-again Inv-loop μ-loop
 loop-again c =
     let inside = c .before .before .before in
@@ -58,13 +34,13 @@ row-sum-spec =
     (tie.spec
     Inv-loop
     μ-loop
-    point-requires
-    add-j
-    loop-holds
-    point-requires-2
-    distance-squared-requires
-    widen-requires
-    add-j-2
-    loop-less
+    (λ c κs. search needs)
+    (λ c. search needs)
+    (λ c. search needs)
+    (λ c κs. search needs)
+    (λ c κs. search needs)
+    (λ c κs. search needs)
+    (λ c. search needs)
+    (λ c. search needs)
     loop-again
     returns)

@@ -9,20 +9,11 @@ returns c =
     let st = c .before .before in
     score-alone (st .args .e) (st .args .centers .now) (st .args .n) (c .if1 .taken)
 
-expected-requires : tie.Need-expected-requires
-expected-requires c κs = search needs
-
 returns-2 : tie.Need-returns-2
 returns-2 c =
     let some = c .before .before in
     let st = some .before .before in
     score-small (st .args .e) (st .args .centers .now) (st .args .n) (some .if1 .left) (rw (← c .before .expected .ensures) (c .if2 .taken))
-
-observed-requires : tie.Need-observed-requires
-observed-requires c κs = search needs
-
-clamp-requires : tie.Need-clamp-requires
-clamp-requires c κs = search needs
 
 returns-3 : tie.Need-returns-3
 returns-3 c =
@@ -34,4 +25,4 @@ returns-3 c =
 pub score-spec : {M : Type 1} → statement M
 score-spec =
     tie.close
-    (tie.spec returns expected-requires returns-2 observed-requires clamp-requires returns-3)
+    (tie.spec returns (λ c κs. search needs) returns-2 (λ c κs. search needs) (λ c κs. search needs) returns-3)

@@ -11,9 +11,6 @@ use Rattle.frame_io.proofs.put_input.Tie as tie
 slice-aggregate-put-text : tie.Need-slice-aggregate-put-text
 slice-aggregate-put-text c = sym (length-take-le _ _ (search needs))
 
-put-text-requires : tie.Need-put-text-requires
-put-text-requires c κs = search needs
-
 returns : tie.Need-returns
 returns c =
     let st = c .before .before .before .before in
@@ -23,4 +20,4 @@ returns c =
     )
 
 pub put-input-spec : {M : Type 1} → statement M
-put-input-spec = tie.close (tie.spec slice-aggregate-put-text put-text-requires returns)
+put-input-spec = tie.close (tie.spec slice-aggregate-put-text (λ c κs. search needs) returns)

@@ -5,13 +5,13 @@ use mathlib.Core.Path.{_≡_, refl, sym, ap, _∙_}
 use mathlib.Core.Bool.{Bool, _||_, or-false}
 use borrow.Author.Needs.{needs}
 use lib.ListN.{length, drop}
-use Rattle.frame_limits.specs.Limits.{over, any, anyOver, maxCoordinate}
+use Rattle.frame_limits.specs.Limits.{exceeds, any, anyOver, maxCoordinate}
 use Rattle.frame_limits.proofs.Search.{any-step, any-end}
 use Rattle.frame_limits.proofs.finite_over.Statement.{statement}
 use Rattle.frame_limits.proofs.finite_over.Tie as tie
 
 abbrev Inv-loop : tie.InvT-loop
-Inv-loop xs found₀ i₀ found i = (i ≤ length xs) × ((found || any (over maxCoordinate) (drop i xs)) ≡ any (over maxCoordinate) xs)
+Inv-loop xs found₀ i₀ found i = (i ≤ length xs) × ((found || any (exceeds maxCoordinate) (drop i xs)) ≡ any (exceeds maxCoordinate) xs)
 
 abbrev μ-loop : tie.MeasureT-loop
 μ-loop xs found₀ i₀ found i = length xs - i
@@ -19,32 +19,17 @@ abbrev μ-loop : tie.MeasureT-loop
 loop-holds : tie.Need-loop-holds Inv-loop μ-loop
 loop-holds c = (search needs, refl)
 
-mul-over : tie.Need-mul-over Inv-loop μ-loop
-mul-over c = search needs
-
-shared-slice-read-over : tie.Need-shared-slice-read-over Inv-loop μ-loop
-shared-slice-read-over c = search needs
-
-over-requires : tie.Need-over-requires Inv-loop μ-loop
-over-requires c κs = search needs
-
-add-i : tie.Need-add-i Inv-loop μ-loop
-add-i c = search needs
-
-loop-less : tie.Need-loop-less Inv-loop μ-loop
-loop-less c = search needs
-
 loop-again : tie.Need-loop-again Inv-loop μ-loop
 loop-again c =
     let inside = c .before .before in
     let at = inside .before in
-    (search needs, rw (c .over .ensures) (any-step (over maxCoordinate) (at .before .before .args .xs .now) (at .loop .i) (at .loop .any) (inside .loop-test .taken) ∙ at .loop .inv .1))
+    (search needs, rw (c .exceeds .ensures) (any-step (exceeds maxCoordinate) (at .before .before .args .xs .now) (at .loop .i) (at .loop .any) (inside .loop-test .taken) ∙ at .loop .inv .1))
 
 returns : tie.Need-returns Inv-loop μ-loop
 unfolding anyOver
 returns c =
     let at = c .before in
-    let none = any-end (over maxCoordinate) (at .before .before .args .xs .now) (at .loop .i) (c .loop-test .left) in
+    let none = any-end (exceeds maxCoordinate) (at .before .before .args .xs .now) (at .loop .i) (c .loop-test .left) in
     sym (or-false (at .loop .any)) ∙ ap (λ (b : Bool). at .loop .any || b) (sym none) ∙ at .loop .inv .1
 
 pub finite-over-spec : {M : Type 1} → statement M
@@ -54,10 +39,10 @@ finite-over-spec =
     Inv-loop
     μ-loop
     loop-holds
-    mul-over
-    shared-slice-read-over
-    over-requires
-    add-i
-    loop-less
+    (λ c. search needs)
+    (λ c. search needs)
+    (λ c κs. search needs)
+    (λ c. search needs)
+    (λ c. search needs)
     loop-again
     returns)

@@ -5,15 +5,6 @@ use Rattle.frame_limits.proofs.FrameRefusals.{frame-chain}
 use Rattle.frame_limits.proofs.frame_refusal.Statement.{statement}
 use Rattle.frame_limits.proofs.frame_refusal.Tie as tie
 
-slice-aggregate-limit-refusal : tie.Need-slice-aggregate-limit-refusal
-slice-aggregate-limit-refusal c = search needs
-
-limit-refusal-requires : tie.Need-limit-refusal-requires
-limit-refusal-requires c κs = search needs
-
-is-valid-requires : tie.Need-is-valid-requires
-is-valid-requires c κs = search needs
-
 returns : tie.Need-returns
 returns c = rw (frame-chain, ← c .before .before .limit-refusal .ensures, ← c .before .is-valid .ensures, c .if1 .taken)
 
@@ -24,8 +15,8 @@ pub frame-refusal-spec : {M : Type 1} → statement M
 frame-refusal-spec =
     tie.close
     (tie.spec
-    slice-aggregate-limit-refusal
-    limit-refusal-requires
-    is-valid-requires
+    (λ c. search needs)
+    (λ c κs. search needs)
+    (λ c κs. search needs)
     returns
     returns-2)

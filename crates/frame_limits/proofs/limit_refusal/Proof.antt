@@ -5,40 +5,19 @@ use Rattle.frame_limits.proofs.FrameRefusals.{limit-chain}
 use Rattle.frame_limits.proofs.limit_refusal.Statement.{statement}
 use Rattle.frame_limits.proofs.limit_refusal.Tie as tie
 
-ragged-requires : tie.Need-ragged-requires
-ragged-requires c κs = search needs
-
-ragged-requires-2 : tie.Need-ragged-requires-2
-ragged-requires-2 c κs = search needs
-
 returns : tie.Need-returns
 returns c = rw (limit-chain, ← c .before .before .ragged .ensures, ← c .before .ragged2 .ensures, c .if1 .taken)
-
-long-requires : tie.Need-long-requires
-long-requires c κs = search needs
-
-long-requires-2 : tie.Need-long-requires-2
-long-requires-2 c κs = search needs
 
 returns-2 : tie.Need-returns-2
 returns-2 c =
     let e1 = c .before .before .before in
     rw (limit-chain, ← e1 .before .before .ragged .ensures, ← e1 .before .ragged2 .ensures, e1 .if1 .left, ← c .before .before .long .ensures, ← c .before .long2 .ensures, c .if2 .taken)
 
-bound-over-requires : tie.Need-bound-over-requires
-bound-over-requires c κs = search needs
-
 returns-3 : tie.Need-returns-3
 returns-3 c =
     let e2 = c .before .before in
     let e1 = e2 .before .before .before in
     rw (limit-chain, ← e1 .before .before .ragged .ensures, ← e1 .before .ragged2 .ensures, e1 .if1 .left, ← e2 .before .before .long .ensures, ← e2 .before .long2 .ensures, e2 .if2 .left, ← c .before .bound-over .ensures, c .if3 .taken)
-
-coordinate-over-requires : tie.Need-coordinate-over-requires
-coordinate-over-requires c κs = search needs
-
-coordinate-over-requires-2 : tie.Need-coordinate-over-requires-2
-coordinate-over-requires-2 c κs = search needs
 
 returns-4 : tie.Need-returns-4
 returns-4 c =
@@ -58,15 +37,15 @@ pub limit-refusal-spec : {M : Type 1} → statement M
 limit-refusal-spec =
     tie.close
     (tie.spec
-    ragged-requires
-    ragged-requires-2
+    (λ c κs. search needs)
+    (λ c κs. search needs)
     returns
-    long-requires
-    long-requires-2
+    (λ c κs. search needs)
+    (λ c κs. search needs)
     returns-2
-    bound-over-requires
+    (λ c κs. search needs)
     returns-3
-    coordinate-over-requires
-    coordinate-over-requires-2
+    (λ c κs. search needs)
+    (λ c κs. search needs)
     returns-4
     returns-5)

@@ -6,12 +6,9 @@ use Rattle.frame_limits.specs.Limits.{long}
 use Rattle.frame_limits.proofs.long.Statement.{statement}
 use Rattle.frame_limits.proofs.long.Tie as tie
 
-mul-result : tie.Need-mul-result
-mul-result c = search needs
-
 returns : tie.Need-returns
 unfolding long
 returns c = refl
 
 pub long-spec : {M : Type 1} → statement M
-long-spec = tie.close (tie.spec mul-result returns)
+long-spec = tie.close (tie.spec (λ c. search needs) returns)

@@ -4,12 +4,9 @@ use Rattle.frame_tests.specs.Tests.{isBlank}
 use Rattle.frame_tests.proofs.is_blank.Statement.{statement}
 use Rattle.frame_tests.proofs.is_blank.Tie as tie
 
-is-valid-requires : tie.Need-is-valid-requires
-is-valid-requires c κs = search needs
-
 returns : tie.Need-returns
 unfolding isBlank
 returns c = rw (c .is-valid .ensures)
 
 pub is-blank-spec : {M : Type 1} → statement M
-is-blank-spec = tie.close (tie.spec is-valid-requires returns)
+is-blank-spec = tie.close (tie.spec (λ c κs. search needs) returns)

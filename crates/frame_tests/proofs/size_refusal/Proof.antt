@@ -1,37 +1,29 @@
 -- `frame_tests::size_refusal` meets its contract: each return knows the tests before it, in the order of the list. Assumes nothing.
 use borrow.Author.Needs.{needs}
 use borrow.Author.Tests.{lt-ltb, le-ltb}
-use Rattle.cell.specs.Refusals.{firstRefusal}
+use Rattle.base.specs.Limits.{maxCopies, maxPicks}
+use Rattle.base.specs.Refusals.{firstRefusal}
 use Rattle.frame_tests.specs.Tests.{sizeRefusals}
 use Rattle.frame_tests.proofs.size_refusal.Statement.{statement}
 use Rattle.frame_tests.proofs.size_refusal.Tie as tie
 
 returns : tie.Need-returns
 unfolding sizeRefusals firstRefusal
-returns c = rw (lt-ltb 4096 (c .before .args .copies) (c .if1 .taken))
+returns c = rw (lt-ltb maxCopies (c .before .args .copies) (c .if1 .taken))
 
 returns-2 : tie.Need-returns-2
 unfolding sizeRefusals firstRefusal
-returns-2 c = rw (le-ltb 4096 (c .before .before .args .copies) (c .before .if1 .left), lt-ltb 65536 (c .before .before .args .picked) (c .if2 .taken))
-
-add-if3 : tie.Need-add-if3
-add-if3 c = search needs
-
-mul-if3 : tie.Need-mul-if3
-mul-if3 c = search needs
-
-add-if3-2 : tie.Need-add-if3-2
-add-if3-2 c = search needs
+returns-2 c = rw (le-ltb maxCopies (c .before .before .args .copies) (c .before .if1 .left), lt-ltb maxPicks (c .before .before .args .picked) (c .if2 .taken))
 
 returns-3 : tie.Need-returns-3
 unfolding sizeRefusals firstRefusal
 returns-3 c =
-    rw (le-ltb 4096 (c .before .before .before .args .copies) (c .before .before .if1 .left), le-ltb 65536 (c .before .before .before .args .picked) (c .before .if2 .left), c .if3 .taken)
+    rw (le-ltb maxCopies (c .before .before .before .args .copies) (c .before .before .if1 .left), le-ltb maxPicks (c .before .before .before .args .picked) (c .before .if2 .left), c .if3 .taken)
 
 returns-4 : tie.Need-returns-4
 unfolding sizeRefusals firstRefusal
 returns-4 c =
-    rw (le-ltb 4096 (c .before .before .before .args .copies) (c .before .before .if1 .left), le-ltb 65536 (c .before .before .before .args .picked) (c .before .if2 .left), c .if3 .left)
+    rw (le-ltb maxCopies (c .before .before .before .args .copies) (c .before .before .if1 .left), le-ltb maxPicks (c .before .before .before .args .picked) (c .before .if2 .left), c .if3 .left)
 
 pub size-refusal-spec : {M : Type 1} → statement M
-size-refusal-spec = tie.close (tie.spec returns returns-2 add-if3 mul-if3 add-if3-2 returns-3 returns-4)
+size-refusal-spec = tie.close (tie.spec returns returns-2 (λ c. search needs) (λ c. search needs) (λ c. search needs) returns-3 returns-4)

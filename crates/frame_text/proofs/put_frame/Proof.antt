@@ -4,7 +4,7 @@ use mathlib.Core.List.{List}
 use Prim.Native.Nat.{ℕ}
 use lib.ListN.{length-replicate}
 use Rattle.mixing.specs.declared.FrameAnswer.{FrameAnswer}
-use Rattle.mixing.specs.Frame.{Frame, Tables, given, frameAnswer, tablesAfter}
+use Rattle.mixing.specs.Frame.{Frame, FrameTables, frameOf, frameAnswer, frameAfter}
 use Rattle.frame_text.specs.Texts.{programTables, answerText, frameText}
 use Rattle.frame_text.proofs.Texts.{lent-zeros, answer-text, none-missing}
 use borrow.Author.Needs.{needs}
@@ -15,13 +15,13 @@ use Rattle.frame_text.proofs.put_frame.Tie as tie
 abbrev handed : tie.After-frame → Frame
 handed c =
     let a = c .before .before .before .before .before .before .before .before .before .before .before .before .before .before .before .before .before .before .before .before .before .args in
-    given (a .cell) (a .solutes .now) (a .per) (a .indices .now) (a .waters .now)
+    frameOf (a .cell) (a .solutes .now) (a .per) (a .indices .now) (a .waters .now)
 
 abbrev left : tie.After-frame → List ℕ
 left c = c .frame .last .1 .1 .1 .1 .1 .1 .1 .1 .1 .1 .1 .1 .0
 
 -- what was answered and left, of the program's tables
-answered : (c : tie.After-frame) → (c .frame .result ≡ frameAnswer (handed c) programTables) × (left c ≡ tablesAfter (handed c) programTables .leaves)
+answered : (c : tie.After-frame) → (c .frame .result ≡ frameAnswer (handed c) programTables) × (left c ≡ frameAfter (handed c) programTables .leaves)
 answered c =
     let tables =
     lent-zeros
@@ -33,74 +33,20 @@ answered c =
     (c .before .before .before .before .before .before .before .before .before .before .before .word-room2 .ensures)
     (c .before .before .before .before .before .before .before .before .before .before .box-room .ensures)
     (c .before .before .before .before .before .before .before .before .before .word-room3 .ensures) in
-    (c .frame .ensures .0 ∙ ap (λ (t : Tables). frameAnswer (handed c) t) tables, ap (λ (t : Tables). t .leaves) (c .frame .ensures .1 ∙ ap (λ (t : Tables). tablesAfter (handed c) t) tables))
+    (c .frame .ensures .0 ∙ ap (λ (t : FrameTables). frameAnswer (handed c) t) tables, ap (λ (t : FrameTables). t .leaves) (c .frame .ensures .1 ∙ ap (λ (t : FrameTables). frameAfter (handed c) t) tables))
 
 -- the case r of its answer has the frame's text
 text : (c : tie.After-frame) {r : FrameAnswer} → c .frame .result ≡ r → answerText r (left c) ≡ frameText (handed c) programTables
 text c {r} e = answer-text (handed c) programTables r (left c) (rw e at (answered c .0)) (answered c .1)
 
-slice-aggregate-frame : tie.Need-slice-aggregate-frame
-slice-aggregate-frame c = search needs
-
-slice-aggregate-frame-2 : tie.Need-slice-aggregate-frame-2
-slice-aggregate-frame-2 c = search needs
-
-slice-aggregate-frame-3 : tie.Need-slice-aggregate-frame-3
-slice-aggregate-frame-3 c = search needs
-
-slice-aggregate-frame-4 : tie.Need-slice-aggregate-frame-4
-slice-aggregate-frame-4 c = search needs
-
-slice-aggregate-frame-5 : tie.Need-slice-aggregate-frame-5
-slice-aggregate-frame-5 c = search needs
-
-slice-aggregate-frame-6 : tie.Need-slice-aggregate-frame-6
-slice-aggregate-frame-6 c = search needs
-
-slice-aggregate-frame-7 : tie.Need-slice-aggregate-frame-7
-slice-aggregate-frame-7 c = search needs
-
-slice-aggregate-frame-8 : tie.Need-slice-aggregate-frame-8
-slice-aggregate-frame-8 c = search needs
-
-frame-requires : tie.Need-frame-requires
-frame-requires c κs = search needs
-
-enum-known-number : tie.Need-enum-known-number
-enum-known-number c = search needs
-
-put-refused-requires : tie.Need-put-refused-requires
-put-refused-requires c κs = search needs
-
 enum-told : tie.Need-enum-told
 enum-told c = search needs
-
-put-blank-requires : tie.Need-put-blank-requires
-put-blank-requires c κs = search needs
-
-enum-known-copies : tie.Need-enum-known-copies
-enum-known-copies c = search needs
-
-slice-aggregate-put-listing : tie.Need-slice-aggregate-put-listing
-slice-aggregate-put-listing c = search needs
-
-put-listing-requires : tie.Need-put-listing-requires
-put-listing-requires c κs = search needs
-
-same-length : tie.Need-same-length
-same-length c = search needs
 
 returns : tie.Need-returns
 returns c = rw (← text (c .before .before .before .before .before .before .before .before .before .before .before .before .before .before .before) (c .before .before .before .before .before .number .given .1)) (c .before .before .put-refused .ensures)
 
-same-length-2 : tie.Need-same-length-2
-same-length-2 c = search needs
-
 returns-2 : tie.Need-returns-2
 returns-2 c = rw (← text (c .before .before .before .before .before .before .before .before .before .before .before .before .before .before) (c .before .before .before .before .enum-told .given .1)) (c .before .before .put-blank .ensures)
-
-same-length-3 : tie.Need-same-length-3
-same-length-3 c = search needs
 
 returns-3 : tie.Need-returns-3
 unfolding programTables
@@ -122,25 +68,25 @@ put-frame-spec =
     (λ c κs. search needs)
     (λ c κs. search needs)
     (λ c κs. search needs)
-    slice-aggregate-frame
-    slice-aggregate-frame-2
-    slice-aggregate-frame-3
-    slice-aggregate-frame-4
-    slice-aggregate-frame-5
-    slice-aggregate-frame-6
-    slice-aggregate-frame-7
-    slice-aggregate-frame-8
-    frame-requires
-    enum-known-number
-    put-refused-requires
+    (λ c. search needs)
+    (λ c. search needs)
+    (λ c. search needs)
+    (λ c. search needs)
+    (λ c. search needs)
+    (λ c. search needs)
+    (λ c. search needs)
+    (λ c. search needs)
+    (λ c κs. search needs)
+    (λ c. search needs)
+    (λ c κs. search needs)
     enum-told
-    put-blank-requires
-    enum-known-copies
-    slice-aggregate-put-listing
-    put-listing-requires
-    same-length
+    (λ c κs. search needs)
+    (λ c. search needs)
+    (λ c. search needs)
+    (λ c κs. search needs)
+    (λ c. search needs)
     returns
-    same-length-2
+    (λ c. search needs)
     returns-2
-    same-length-3
+    (λ c. search needs)
     returns-3)

@@ -3,17 +3,8 @@ use borrow.Author.Needs.{needs}
 use Rattle.leaf.proofs.axis_in_shell.Statement.{statement}
 use Rattle.leaf.proofs.axis_in_shell.Tie as tie
 
-image-axis-requires : tie.Need-image-axis-requires
-image-axis-requires c κs = search needs
-
-half-side-requires : tie.Need-half-side-requires
-half-side-requires c κs = search needs
-
-within-requires : tie.Need-within-requires
-within-requires c κs = search needs
-
 returns : tie.Need-returns
 returns c = rw (c .within .ensures, c .before .half-side .ensures, c .before .before .image-axis .ensures)
 
 pub axis-in-shell-spec : {M : Type 1} → statement M
-axis-in-shell-spec = tie.close (tie.spec image-axis-requires half-side-requires within-requires returns)
+axis-in-shell-spec = tie.close (tie.spec (λ c κs. search needs) (λ c κs. search needs) (λ c κs. search needs) returns)

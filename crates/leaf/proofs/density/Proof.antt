@@ -12,12 +12,9 @@ int-to-float-result : tie.Need-int-to-float-result
 unfolding inFloat
 int-to-float-result c = le→leb (c .before .args .waters) (2 ^ 24) (omega arith)
 
-room-volume-requires : tie.Need-room-volume-requires
-room-volume-requires c κs = search needs
-
 returns : tie.Need-returns
 unfolding densityOf
 returns c = rw (c .room-volume .ensures)
 
 pub density-spec : {M : Type 1} → statement M
-density-spec = tie.close (tie.spec int-to-float-result room-volume-requires returns)
+density-spec = tie.close (tie.spec int-to-float-result (λ c κs. search needs) returns)

@@ -4,18 +4,6 @@ use Rattle.leaf.specs.Leaf.{expanded}
 use Rattle.leaf.proofs.expanded.Statement.{statement}
 use Rattle.leaf.proofs.expanded.Tie as tie
 
-extent-requires : tie.Need-extent-requires
-extent-requires c κs = search needs
-
-smaller-requires : tie.Need-smaller-requires
-smaller-requires c κs = search needs
-
-smaller-requires-2 : tie.Need-smaller-requires-2
-smaller-requires-2 c κs = search needs
-
-smaller-requires-3 : tie.Need-smaller-requires-3
-smaller-requires-3 c κs = search needs
-
 returns : tie.Need-returns
 unfolding expanded
 returns c = rw (c .before .before .before .before .smaller .ensures, c .before .before .smaller2 .ensures, c .smaller3 .ensures, c .before .before .before .before .before .before .extent .ensures)
@@ -23,4 +11,4 @@ returns c = rw (c .before .before .before .before .smaller .ensures, c .before .
 pub expanded-spec : {M : Type 1} → statement M
 expanded-spec =
     tie.close
-    (tie.spec extent-requires smaller-requires smaller-requires-2 smaller-requires-3 returns)
+    (tie.spec (λ c κs. search needs) (λ c κs. search needs) (λ c κs. search needs) (λ c κs. search needs) returns)

@@ -4,12 +4,9 @@ use Rattle.leaf.specs.Leaf.{halfSide}
 use Rattle.leaf.proofs.half_side.Statement.{statement}
 use Rattle.leaf.proofs.half_side.Tie as tie
 
-smaller-requires : tie.Need-smaller-requires
-smaller-requires c κs = search needs
-
 returns : tie.Need-returns
 unfolding halfSide
 returns c = c .smaller .ensures
 
 pub half-side-spec : {M : Type 1} → statement M
-half-side-spec = tie.close (tie.spec smaller-requires returns)
+half-side-spec = tie.close (tie.spec (λ c κs. search needs) returns)

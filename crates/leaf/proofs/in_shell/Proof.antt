@@ -4,21 +4,12 @@ use Rattle.leaf.proofs.ShellAxes.{outside-x, outside-y, last-axis}
 use Rattle.leaf.proofs.in_shell.Statement.{statement}
 use Rattle.leaf.proofs.in_shell.Tie as tie
 
-extent-requires : tie.Need-extent-requires
-extent-requires c κs = search needs
-
-axis-in-shell-requires : tie.Need-axis-in-shell-requires
-axis-in-shell-requires c κs = search needs
-
 returns : tie.Need-returns
 returns c =
     let on-x = c .before in
     let e = on-x .before in
     let a = e .before .args in
     outside-x (a .cell) (a .b) (a .w) (e .extent .result) (e .extent .ensures) (on-x .axis-in-shell .result) (on-x .axis-in-shell .ensures) (c .if1 .taken)
-
-axis-in-shell-requires-2 : tie.Need-axis-in-shell-requires-2
-axis-in-shell-requires-2 c κs = search needs
 
 returns-2 : tie.Need-returns-2
 returns-2 c =
@@ -28,9 +19,6 @@ returns-2 c =
     let a = e .before .args in
     outside-y (a .cell) (a .b) (a .w) (e .extent .result) (e .extent .ensures) (on-x .axis-in-shell .result) (on-x .axis-in-shell .ensures) (on-y .before .if1 .left)
     (on-y .axis-in-shell2 .result) (on-y .axis-in-shell2 .ensures) (c .if2 .taken)
-
-axis-in-shell-requires-3 : tie.Need-axis-in-shell-requires-3
-axis-in-shell-requires-3 c κs = search needs
 
 returns-3 : tie.Need-returns-3
 returns-3 c =
@@ -45,10 +33,10 @@ pub in-shell-spec : {M : Type 1} → statement M
 in-shell-spec =
     tie.close
     (tie.spec
-    extent-requires
-    axis-in-shell-requires
+    (λ c κs. search needs)
+    (λ c κs. search needs)
     returns
-    axis-in-shell-requires-2
+    (λ c κs. search needs)
     returns-2
-    axis-in-shell-requires-3
+    (λ c κs. search needs)
     returns-3)

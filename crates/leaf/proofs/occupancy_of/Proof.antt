@@ -18,13 +18,10 @@ int-to-float-t4 : tie.Need-int-to-float-t4
 unfolding inFloat
 int-to-float-t4 c = le→leb (c .before .before .args .observed) (2 ^ 24) (omega arith)
 
-larger-requires : tie.Need-larger-requires
-larger-requires c κs = search needs
-
 returns-2 : tie.Need-returns-2
 returns-2 c =
     let st = c .before .before .before in
     rw (c .larger .ensures) (some-seen (st .args .observed) (st .args .expected) (c .before .before .if1 .left))
 
 pub occupancy-of-spec : {M : Type 1} → statement M
-occupancy-of-spec = tie.close (tie.spec returns int-to-float-t4 larger-requires returns-2)
+occupancy-of-spec = tie.close (tie.spec returns int-to-float-t4 (λ c κs. search needs) returns-2)

@@ -13,18 +13,9 @@ returns : tie.Need-returns
 unfolding partitionScore
 returns c = rw (c .if1 .taken)
 
-sqrt32-requires : tie.Need-sqrt32-requires
-sqrt32-requires c κs = search needs
-
 int-to-float-sqrt32 : tie.Need-int-to-float-sqrt32
 unfolding inFloat
 int-to-float-sqrt32 c = le→leb (c .before .before .before .args .centers) (2 ^ 24) (omega (arith, c .before .before .before .pre))
-
-sqrt32-requires-2 : tie.Need-sqrt32-requires-2
-sqrt32-requires-2 c κs = search needs
-
-clamp-requires : tie.Need-clamp-requires
-clamp-requires c κs = search needs
 
 returns-2 : tie.Need-returns-2
 unfolding partitionScore
@@ -35,8 +26,8 @@ partition-score-spec =
     tie.close
     (tie.spec
     returns
-    sqrt32-requires
+    (λ c κs. search needs)
     int-to-float-sqrt32
-    sqrt32-requires-2
-    clamp-requires
+    (λ c κs. search needs)
+    (λ c κs. search needs)
     returns-2)

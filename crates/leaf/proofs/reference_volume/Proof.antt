@@ -8,12 +8,6 @@ use Rattle.leaf.specs.Leaf.{referenceVolume}
 use Rattle.leaf.proofs.reference_volume.Statement.{statement}
 use Rattle.leaf.proofs.reference_volume.Tie as tie
 
-room-volume-requires : tie.Need-room-volume-requires
-room-volume-requires c κs = search needs
-
-reference-leaves-requires : tie.Need-reference-leaves-requires
-reference-leaves-requires c κs = search needs
-
 int-to-float-result : tie.Need-int-to-float-result
 unfolding inFloat
 int-to-float-result c = le→leb (c .before .reference-leaves .result) (2 ^ 24) (omega (arith, c .before .reference-leaves .ensures .1))
@@ -24,4 +18,4 @@ returns c = rw (c .before .before .room-volume .ensures, c .before .reference-le
 
 pub reference-volume-spec : {M : Type 1} → statement M
 reference-volume-spec =
-    tie.close (tie.spec room-volume-requires reference-leaves-requires int-to-float-result returns)
+    tie.close (tie.spec (λ c κs. search needs) (λ c κs. search needs) int-to-float-result returns)

@@ -5,18 +5,6 @@ use borrow.Author.Needs.{needs}
 use Rattle.leaf_table.proofs.dry_bit.Statement.{statement}
 use Rattle.leaf_table.proofs.dry_bit.Tie as tie
 
-mul-if1 : tie.Need-mul-if1
-mul-if1 c = search needs
-
-add-if1 : tie.Need-add-if1
-add-if1 c = search needs
-
-mul-if1-2 : tie.Need-mul-if1-2
-mul-if1-2 c = search needs
-
-shared-slice-read-if1 : tie.Need-shared-slice-read-if1
-shared-slice-read-if1 c = search needs
-
 returns : tie.Need-returns
 returns c = (rw (eq-eqb _ 0 (c .if1 .taken)), omega arith)
 
@@ -25,4 +13,4 @@ returns-2 c = (rw (ne-eqb _ 0 (c .if1 .left)), omega arith)
 
 pub dry-bit-spec : {M : Type 1} → statement M
 dry-bit-spec =
-    tie.close (tie.spec mul-if1 add-if1 mul-if1-2 shared-slice-read-if1 returns returns-2)
+    tie.close (tie.spec (λ c. search needs) (λ c. search needs) (λ c. search needs) (λ c. search needs) returns returns-2)

@@ -18,45 +18,49 @@ abbrev μ-loop : tie.MeasureT-loop
 μ-loop cell waters m density reference records boxes n leaves₀ reported₀ dry₀ i₀ leaves reported dry i =
     n - i
 
-loop-holds : tie.Need-loop-holds Inv-loop μ-loop
-loop-holds c = reporting-first (c .before .before .before .before .pre .1 .0 .2)
+-- landmarks: from a place back to an earlier one
+abbrev start : tie.After-slice-known Inv-loop μ-loop → tie.Start Inv-loop μ-loop
+start c = c .before .before .before .before
 
-is-reported-requires : tie.Need-is-reported-requires Inv-loop μ-loop
-is-reported-requires c κs = search needs
+abbrev turn : tie.After-is-reported Inv-loop μ-loop → tie.At-loop Inv-loop μ-loop
+turn c = c .before .before
+
+abbrev tested : tie.After-put-leaf Inv-loop μ-loop → tie.After-is-reported Inv-loop μ-loop
+tested c = c .before .before .before
+
+abbrev startOf : tie.At-loop Inv-loop μ-loop → tie.Start Inv-loop μ-loop
+startOf c = start (c .before)
+
+loop-holds : tie.Need-loop-holds Inv-loop μ-loop
+loop-holds c = reporting-first (start c .pre .1 .0 .2)
 
 put-leaf-requires : tie.Need-put-leaf-requires Inv-loop μ-loop
 put-leaf-requires c κs =
-    let at = c .before .before .before .before in
-    let st = at .before .before .before .before .before in
+    let at = turn (c .before .before) in
+    let st = startOf at in
     let less = c .before .before .before .loop-test .taken in
     let room = reporting-room less (at .loop .inv) (st .pre .1 .0 .2) in
     (st .pre .0, ((omega (arith, st .pre .1 .0), omega (arith, st .pre .1 .0), omega (arith, st .pre .1 .0), omega (arith, st .pre .1 .0)), st .pre .1 .1 (at .loop .i) less))
 
 dry-bit-requires : tie.Need-dry-bit-requires Inv-loop μ-loop
 dry-bit-requires c κs =
-    let at = c .before .before .before .before .before .before .before in
-    omega (arith, at .before .before .before .before .before .pre .1 .0, c .before .before .before .before .before .before .loop-test .taken)
+    let at = turn (tested (c .before .before)) in
+    omega (arith, startOf at .pre .1 .0, tested (c .before .before) .before .loop-test .taken)
 
 add-dry : tie.Need-add-dry Inv-loop μ-loop
 add-dry c =
-    let at = c .before .before .before .before .before .before .before .before in
-    omega (arith, at .loop .inv .within, at .loop .inv .few, at .loop .inv .fewer, c .dry-bit .ensures .1, at .before .before .before .before .before .pre .1 .0)
+    let at = turn (tested (c .before .before .before)) in
+    omega (arith, at .loop .inv .within, at .loop .inv .few, at .loop .inv .fewer, c .dry-bit .ensures .1, startOf at .pre .1 .0)
 
 add-reported : tie.Need-add-reported Inv-loop μ-loop
 add-reported c =
-    let at = c .before .before .before .before .before .before .before .before in
-    omega (arith, at .loop .inv .within, at .loop .inv .few, at .before .before .before .before .before .pre .1 .0)
-
-add-i : tie.Need-add-i Inv-loop μ-loop
-add-i c = search needs
-
-loop-less : tie.Need-loop-less Inv-loop μ-loop
-loop-less c = search needs
+    let at = turn (tested (c .before .before .before)) in
+    omega (arith, at .loop .inv .within, at .loop .inv .few, startOf at .pre .1 .0)
 
 loop-again : tie.Need-loop-again Inv-loop μ-loop
 unfolding nodeAt
 loop-again c =
-    let at = c .before .before .before in
+    let at = turn (c .before) in
     let less = c .before .before .loop-test .taken in
     let test = sym (c .before .is-reported .ensures) in
     ⊎-elim
@@ -77,13 +81,13 @@ put-leaves-spec =
     Inv-loop
     μ-loop
     loop-holds
-    is-reported-requires
+    (λ c κs. search needs)
     put-leaf-requires
     dry-bit-requires
     add-dry
     add-reported
-    add-i
-    loop-less
+    (λ c. search needs)
+    (λ c. search needs)
     loop-again
     same-length
     returns)

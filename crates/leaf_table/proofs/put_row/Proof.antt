@@ -4,67 +4,44 @@ use Prim.Native.Nat.{ℕ}
 use borrow.Author.Needs.{needs}
 use lib.Ieee.{Float, binary32, mul, toBits}
 use Rattle.cell.specs.Cell.{volumeOf}
-use Rattle.nodes.proofs.Placing.{eight}
+use Rattle.nodes.proofs.NodeTables.{eight}
 use Rattle.leaf.specs.Leaf.{occupancyOf, occupancyWord, partitionScore}
 use Rattle.leaf_table.specs.LeafTable.{leafWords}
 use Rattle.leaf_table.proofs.put_row.Statement.{statement}
 use Rattle.leaf_table.proofs.put_row.Tie as tie
 
-volume-requires : tie.Need-volume-requires
-volume-requires c κs = search needs
+-- landmarks: from a place back to an earlier one
+abbrev start : tie.After-shell-waters → tie.Start
+start c = c .before .before .before .before
 
-shell-waters-requires : tie.Need-shell-waters-requires
-shell-waters-requires c κs = search needs
+abbrev shelled : tie.After-expanded → tie.After-shell-waters
+shelled c = c .before .before
 
-occupancy-of-requires : tie.Need-occupancy-of-requires
-occupancy-of-requires c κs = search needs
+abbrev expanded : tie.After-partition-score → tie.After-expanded
+expanded c = c .before .before .before
 
-expanded-requires : tie.Need-expanded-requires
-expanded-requires c κs = search needs
+abbrev scored : tie.After-word → tie.After-partition-score
+scored c = c .before .before .before
 
-volume-requires-2 : tie.Need-volume-requires-2
-volume-requires-2 c κs = search needs
-
-occupancy-of-requires-2 : tie.Need-occupancy-of-requires-2
-occupancy-of-requires-2 c κs = search needs
-
-partition-score-requires : tie.Need-partition-score-requires
-partition-score-requires c κs = search needs
-
-occupancy-word-requires : tie.Need-occupancy-word-requires
-occupancy-word-requires c κs = search needs
-
-word-requires : tie.Need-word-requires
-word-requires c κs = search needs
-
-occupancy-word-requires-2 : tie.Need-occupancy-word-requires-2
-occupancy-word-requires-2 c κs = search needs
-
-to-bits32-requires : tie.Need-to-bits32-requires
-to-bits32-requires c κs = search needs
-
-put-record-requires : tie.Need-put-record-requires
-put-record-requires c κs = search needs
-
-same-length : tie.Need-same-length
-same-length c = search needs
+abbrev worded : tie.After-put-record → tie.After-word
+worded c = c .before .before .before
 
 returns : tie.Need-returns
 unfolding leafWords
 returns c =
-    let g = c .before .before .before .before .before .before .before .before .before .before .before .before .before .before .before .before .before .args in
     let words = c .before .before in
-    let score = c .before .before .before .before .before .before .before .before in
-    let shell = score .before .before .before .before .before in
+    let score = scored (worded words) in
+    let shell = shelled (expanded score) in
+    let g = start shell .args in
     let volume = shell .before .volume .ensures in
-    let own = score .before .before .before .before .occupancy-of .ensures ∙ ap (λ (v : Float). occupancyOf (g .wet) (mul binary32 (g .density) v)) volume in
-    let sides = score .before .before .volume2 .ensures ∙ ap volumeOf (score .before .before .before .expanded .ensures) in
+    let own = expanded score .before .occupancy-of .ensures ∙ ap (λ (v : Float). occupancyOf (g .wet) (mul binary32 (g .density) v)) volume in
+    let sides = score .before .before .volume2 .ensures ∙ ap volumeOf (expanded score .expanded .ensures) in
     let around = score .before .occupancy-of2 .ensures ∙ ap₂ (λ (n : ℕ) (v : Float). occupancyOf n (mul binary32 (g .density) v)) (shell .shell-waters .ensures .0) sides in
     let part = score .partition-score .ensures ∙ ap (λ (v : Float). partitionScore v (g .reference) (g .centers)) volume in
     words .put-record .ensures
     ∙ eight refl refl refl
-    (words .before .before .before .before .occupancy-word .ensures ∙ ap occupancyWord own)
-    (words .before .before .before .word .ensures ∙ shell .shell-waters .ensures .0)
+    (worded words .before .occupancy-word .ensures ∙ ap occupancyWord own)
+    (worded words .word .ensures ∙ shell .shell-waters .ensures .0)
     (words .before .before .occupancy-word2 .ensures ∙ ap occupancyWord around)
     (words .before .to-bits32 .ensures ∙ ap (toBits binary32) part)
 
@@ -72,17 +49,17 @@ pub put-row-spec : {M : Type 1} → statement M
 put-row-spec =
     tie.close
     (tie.spec
-    volume-requires
-    shell-waters-requires
-    occupancy-of-requires
-    expanded-requires
-    volume-requires-2
-    occupancy-of-requires-2
-    partition-score-requires
-    occupancy-word-requires
-    word-requires
-    occupancy-word-requires-2
-    to-bits32-requires
-    put-record-requires
-    same-length
+    (λ c κs. search needs)
+    (λ c κs. search needs)
+    (λ c κs. search needs)
+    (λ c κs. search needs)
+    (λ c κs. search needs)
+    (λ c κs. search needs)
+    (λ c κs. search needs)
+    (λ c κs. search needs)
+    (λ c κs. search needs)
+    (λ c κs. search needs)
+    (λ c κs. search needs)
+    (λ c κs. search needs)
+    (λ c. search needs)
     returns)

@@ -13,15 +13,6 @@ returns c =
     let out = c .before .before .args .out .now in
     cramped false blankText out (lt-ltb (length out) 6 (c .if1 .taken))
 
-slice-aggregate-put-text : tie.Need-slice-aggregate-put-text
-slice-aggregate-put-text c = search needs
-
-put-text-requires : tie.Need-put-text-requires
-put-text-requires c κs = search needs
-
-same-length : tie.Need-same-length
-same-length c = search needs
-
 returns-2 : tie.Need-returns-2
 returns-2 c =
     let e = c .before .before .before .before .before in
@@ -30,4 +21,4 @@ returns-2 c =
 
 pub put-blank-spec : {M : Type 1} → statement M
 put-blank-spec =
-    tie.close (tie.spec returns slice-aggregate-put-text put-text-requires same-length returns-2)
+    tie.close (tie.spec returns (λ c. search needs) (λ c κs. search needs) (λ c. search needs) returns-2)

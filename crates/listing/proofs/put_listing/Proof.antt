@@ -43,19 +43,10 @@ returns c =
     let s = c .before .before .before in
     cramped (missing s) (text s) (s .args .out .now) (rw (lt-ltb (length (s .args .leaves .now)) (s .args .count * 8) (omega arith)))
 
-head-size-requires : tie.Need-head-size-requires
-head-size-requires c κs = search needs
-
 returns-2 : tie.Need-returns-2
 returns-2 c =
     let s = c .before .before .before .before .before in
     cramped (missing s) (text s) (s .args .out .now) (rw (lt-ltb (length (s .args .out .now)) (length (text s)) (omega (arith, size s)), or-true))
-
-sub-leaves-fit : tie.Need-sub-leaves-fit
-sub-leaves-fit c = search needs
-
-leaves-fit-requires : tie.Need-leaves-fit-requires
-leaves-fit-requires c κs = search needs
 
 returns-3 : tie.Need-returns-3
 returns-3 c =
@@ -65,9 +56,6 @@ returns-3 c =
 
 put-lines-requires : tie.Need-put-lines-requires
 put-lines-requires c κs = roomy (c .before)
-
-same-length : tie.Need-same-length
-same-length c = search needs
 
 returns-4 : tie.Need-returns-4
 returns-4 c =
@@ -86,11 +74,11 @@ put-listing-spec =
     tie.close
     (tie.spec
     returns
-    head-size-requires
+    (λ c κs. search needs)
     returns-2
-    sub-leaves-fit
-    leaves-fit-requires
+    (λ c. search needs)
+    (λ c κs. search needs)
     returns-3
     put-lines-requires
-    same-length
+    (λ c. search needs)
     returns-4)

@@ -27,28 +27,13 @@ one c =
     let a = c .before .before .before .before .before .before .args in
     words-next (omega arith) (words-first (words (a .n)) (a .out .now) (omega (arith, roomy (c .before .before .before)))) (c .put-text .ensures)
 
-decimal-places-requires : tie.Need-decimal-places-requires
-decimal-places-requires c κs = search needs
-
-add-if1 : tie.Need-add-if1
-add-if1 c = search needs
-
 returns : tie.Need-returns
 returns c =
     let a = c .before .before .before .args in
     cramped false (refusedText (a .n)) (a .out .now) (lt-ltb (length (a .out .now)) (length (refusedText (a .n))) (omega (arith, length-refused (a .n))))
 
-slice-aggregate-put-text : tie.Need-slice-aggregate-put-text
-slice-aggregate-put-text c = search needs
-
-put-text-requires : tie.Need-put-text-requires
-put-text-requires c κs = search needs
-
 put-number-requires : tie.Need-put-number-requires
 put-number-requires c κs = last-fits refl (one (c .before .before .before))
-
-same-length : tie.Need-same-length
-same-length c = search needs
 
 returns-2 : tie.Need-returns-2
 unfolding refusedText
@@ -65,11 +50,11 @@ pub put-refused-spec : {M : Type 1} → statement M
 put-refused-spec =
     tie.close
     (tie.spec
-    decimal-places-requires
-    add-if1
+    (λ c κs. search needs)
+    (λ c. search needs)
     returns
-    slice-aggregate-put-text
-    put-text-requires
+    (λ c. search needs)
+    (λ c κs. search needs)
     put-number-requires
-    same-length
+    (λ c. search needs)
     returns-2)

@@ -1,15 +1,16 @@
 -- `baithrum_centers` meets its contract: the number and the table are Centers's, in the cell of the six numbers. Assumes nothing.
 use borrow.Author.Needs.{needs}
 use mathlib.Core.Path.{ap, _∙_}
-use Rattle.cell.specs.Refusals.{numberOf}
+use Rattle.base.specs.Refusals.{answerNumber}
 use Rattle.mixing_c.proofs.Numbers.{accepted-number}
 use Rattle.mixing_c.proofs.baithrum_centers.Statement.{statement}
 use Rattle.mixing_c.proofs.baithrum_centers.Tie as tie
 
 returns : tie.Need-returns
 returns c =
-    let got = rw (c .before .before .before .before .before .cell .ensures) at (c .before .before .before .centers .ensures) in
-    (c .number .ensures ∙ ap numberOf (got .0) ∙ accepted-number _, got .1)
+    let called = c .before .before .before in
+    let got = rw (called .before .before .cell .ensures) at (called .centers .ensures) in
+    (c .number .ensures ∙ ap answerNumber (got .0) ∙ accepted-number _, got .1)
 
 pub baithrum-centers-spec : {M : Type 1} → statement M
 baithrum-centers-spec =

@@ -2,18 +2,26 @@
 use borrow.Author.Needs.{needs}
 use mathlib.Core.Path.{ap, _∙_}
 use Rattle.clusters.specs.declared.Closing.{Closing}
-use Rattle.clusters.specs.Answers.{closeNumber, fractionsOf}
+use Rattle.clusters.specs.Answers.{closeNumber, closeValues}
 use Rattle.answers.specs.Interface.{bitsOf, answersAfter}
 use Rattle.mixing_c.proofs.Numbers.{close-number}
 use Rattle.mixing_c.proofs.baithrum_close.Statement.{statement}
 use Rattle.mixing_c.proofs.baithrum_close.Tie as tie
 
+-- landmarks: from a place back to an earlier one
+abbrev start : tie.After-close → tie.Start
+start c = c .before .before .before
+
+abbrev back : tie.After-slice-known2 → tie.After-close
+back c = c .before .before .before .before
+
 returns : tie.Need-returns
 returns c =
-    let st = c .before .before .before .before .before .before .before in
-    let got = c .before .before .before .before .close .ensures in
-    let given = c .before .before .closing .ensures in
-    (given .0 ∙ ap closeNumber got ∙ close-number _, given .1 ∙ ap (λ (a : Closing). answersAfter (bitsOf (fractionsOf a)) (st .args .answers .now)) got)
+    let called = back c in
+    let st = start called in
+    let got = called .close .ensures in
+    let told = c .before .before .closing .ensures in
+    (told .0 ∙ ap closeNumber got ∙ close-number _, told .1 ∙ ap (λ (a : Closing). answersAfter (bitsOf (closeValues a)) (st .args .answers .now)) got)
 
 pub baithrum-close-spec : {M : Type 1} → statement M
 baithrum-close-spec =

@@ -2,18 +2,26 @@
 use borrow.Author.Needs.{needs}
 use mathlib.Core.Path.{ap, _∙_}
 use Rattle.dispersion.specs.declared.Dispersed.{Dispersed}
-use Rattle.dispersion.specs.Dispersion.{dispersedNumber, dispersedValues}
+use Rattle.dispersion.specs.Dispersion.{dispersionNumber, dispersionValues}
 use Rattle.answers.specs.Interface.{bitsOf, answersAfter}
 use Rattle.mixing_c.proofs.Numbers.{dispersion-number}
 use Rattle.mixing_c.proofs.baithrum_dispersion.Statement.{statement}
 use Rattle.mixing_c.proofs.baithrum_dispersion.Tie as tie
 
+-- landmarks: from a place back to an earlier one. An `rw .. at` is told to open those that it meets, or it would rewrite inside the place.
+abbrev start : tie.After-cell → tie.Start
+start c = c .before .before .before .before .before
+
+abbrev back : tie.After-slice-known2 → tie.After-dispersion
+back c = c .before .before .before .before
+
 returns : tie.Need-returns
 returns c =
-    let st = c .before .before .before .before .before .before .before .before .before .before in
-    let got = rw (c .before .before .before .before .before .cell .ensures) at (c .before .before .before .before .dispersion .ensures) in
-    let given = c .before .before .dispersed .ensures in
-    (given .0 ∙ ap dispersedNumber got ∙ dispersion-number _ _ _ _, given .1 ∙ ap (λ (a : Dispersed). answersAfter (bitsOf (dispersedValues a)) (st .args .answers .now)) got)
+    let called = back c in
+    let st = start (called .before) in
+    let got = rw (called .before .cell .ensures, back) at (called .dispersion .ensures) in
+    let told = c .before .before .dispersed .ensures in
+    (told .0 ∙ ap dispersionNumber got ∙ dispersion-number _, told .1 ∙ ap (λ (a : Dispersed). answersAfter (bitsOf (dispersionValues a)) (st .args .answers .now)) got)
 
 pub baithrum-dispersion-spec : {M : Type 1} → statement M
 baithrum-dispersion-spec =

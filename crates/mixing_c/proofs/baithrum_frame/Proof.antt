@@ -3,26 +3,37 @@
 use borrow.Author.Needs.{needs}
 use mathlib.Core.Path.{ap, _∙_}
 use Rattle.mixing.specs.declared.FrameAnswer.{FrameAnswer}
-use Rattle.mixing.specs.Frame.{given, lent, frameNumber}
+use Rattle.mixing.specs.Frame.{frameNumber}
 use Rattle.answers.specs.Interface.{answersAfter, frameWords}
 use Rattle.mixing_c.proofs.Small.{frame-small}
 use Rattle.mixing_c.proofs.Numbers.{frame-number}
 use Rattle.mixing_c.proofs.baithrum_frame.Statement.{statement}
 use Rattle.mixing_c.proofs.baithrum_frame.Tie as tie
 
+-- landmarks: from a place back to an earlier one. An `rw .. at` is told to open those that it meets, or it would rewrite inside the place.
+abbrev start : tie.After-cell → tie.Start
+start c = c .before .before .before .before .before .before .before .before .before .before .before .before .before
+
+abbrev cells : tie.After-frame → tie.After-cell
+cells c = c .before .before .before .before .before .before .before .before .before
+
+abbrev lists : tie.After-slice-known13 → tie.After-frame
+lists c = c .before .before .before .before .before .before .before .before
+
+abbrev back : tie.After-frame-arg9 → tie.After-frame
+back c = lists (c .before .before .before .before .before .before .before .before .before)
+
 frame-requires-2 : tie.Need-frame-requires-2
-frame-requires-2 c κs =
-    let st = c .before .before .before .before .before .before .before .before .before .before .before .before .before .before .before .before .before .before .before .before .before .before .before .before .before .before .before .before .before .before .before .before .before .before .before .before .before .before .before in
-    let got = c .before .before .before .before .before .before .before .before .before .before .before .before .before .before .before .before .before .frame .ensures in
-    λ k. rw (got .0) (frame-small (given (c .before .before .before .before .before .before .before .before .before .before .before .before .before .before .before .before .before .before .before .before .before .before .before .before .before .before .cell .result) (st .args .solutes .now) (st .args .per) (st .args .indices .now) (st .args .waters .now)) (lent (st .args .starts .now) (st .args .picks .now) (st .args .clusters .now) (st .args .center-order .now) (st .args .water-order .now) (st .args .records .now) (st .args .boxes .now) (st .args .leaves .now)) k)
+frame-requires-2 c κs = let got = back c .frame in λ k. rw (got .ensures .0) (frame-small _ _ k)
 
 returns : tie.Need-returns
 returns c =
-    let st = c .before .before .before .before .before .before .before .before .before .before .before .before .before .before .before .before .before .before .before .before .before .before .before .before .before .before .before .before .before .before .before .before .before .before .before .before .before .before .before .before .before .before in
-    let got = rw (c .before .before .before .before .before .before .before .before .before .before .before .before .before .before .before .before .before .before .before .before .before .before .before .before .before .before .before .before .before .cell .ensures) at (c .before .before .before .before .before .before .before .before .before .before .before .before .before .before .before .before .before .before .before .before .frame .ensures) in
-    let given = c .before .before .frame2 .ensures in (
-      given .0 ∙ ap frameNumber (got .0) ∙ frame-number _ _,
-      (got .1, given .1 ∙ ap (λ (a : FrameAnswer). answersAfter (frameWords a) (st .args .answers .now)) (got .0)),
+    let called = back (c .before .before .before) in
+    let st = start (cells called) in
+    let got = rw (cells called .cell .ensures, back, lists) at (called .frame .ensures) in
+    let told = c .before .before .frame2 .ensures in (
+      told .0 ∙ ap frameNumber (got .0) ∙ frame-number _ _,
+      (got .1, told .1 ∙ ap (λ (a : FrameAnswer). answersAfter (frameWords a) (st .args .answers .now)) (got .0)),
     )
 
 pub baithrum-frame-spec : {M : Type 1} → statement M

@@ -5,7 +5,7 @@ use mathlib.Core.Path.{_≡_, refl}
 use Prim.Native.Nat.{_-_, _≤_}
 use lib.ListN.{length, take, replicate, length-set}
 use lib.Ieee.{binary32, ofBits}
-use Rattle.nodes.proofs.Filling.{written, all-written, replicate-more}
+use Rattle.base.proofs.Filling.{written, all-written, replicate-more}
 use Rattle.nodes.proofs.clear_floats.Statement.{statement}
 use Rattle.nodes.proofs.clear_floats.Tie as tie
 

@@ -4,7 +4,7 @@ use borrow.Author.Needs.{needs}
 use mathlib.Core.Path.{_≡_, refl}
 use Prim.Native.Nat.{_-_, _≤_}
 use lib.ListN.{length, take, replicate, length-set}
-use Rattle.nodes.proofs.Filling.{written, all-written, replicate-more}
+use Rattle.base.proofs.Filling.{written, all-written, replicate-more}
 use Rattle.nodes.proofs.clear_words.Statement.{statement}
 use Rattle.nodes.proofs.clear_words.Tie as tie
 

@@ -4,8 +4,8 @@ use borrow.Author.Needs.{needs}
 use mathlib.Core.Path.{_≡_, refl, ap, _∙_}
 use Prim.Native.Nat.{_+_, _-_, _≤_}
 use lib.ListN.{length, take, set, length-set}
-use Rattle.nodes.specs.Nodes.{firstNumbers}
-use Rattle.nodes.proofs.Filling.{written, all-written, numbers-more, numbers-none}
+use Rattle.base.specs.Tables.{firstNumbers}
+use Rattle.base.proofs.Filling.{written, all-written, numbers-more, numbers-none}
 use Rattle.nodes.proofs.count_up.Statement.{statement}
 use Rattle.nodes.proofs.count_up.Tie as tie
 

@@ -4,7 +4,7 @@ use borrow.Author.Needs.{needs}
 use native.Mathlib.Omega.{arith}
 use mathlib.Core.List.{[], _∷_}
 use lib.ListN.{length-set}
-use Rattle.nodes.proofs.Placing.{put-all}
+use Rattle.base.proofs.Placing.{put-all}
 use Rattle.nodes.proofs.put_box.Statement.{statement}
 use Rattle.nodes.proofs.put_box.Tie as tie
 

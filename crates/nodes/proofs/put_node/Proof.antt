@@ -2,7 +2,8 @@
 use borrow.Author.Needs.{needs}
 use mathlib.Core.Path.{refl, _∙_}
 use Prim.Native.Nat.{_+_, _*_}
-use Rattle.nodes.proofs.Placing.{eight, placed-part}
+use Rattle.nodes.proofs.NodeTables.{eight}
+use Rattle.base.proofs.Placing.{placed-part}
 use Rattle.nodes.proofs.put_node.Statement.{statement}
 use Rattle.nodes.proofs.put_node.Tie as tie
 

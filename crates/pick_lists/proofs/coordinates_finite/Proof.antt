@@ -5,7 +5,7 @@ use mathlib.Core.Path.{_≡_, refl, sym, ap, _∙_}
 use mathlib.Core.Bool.{Bool, _&&_, and-true}
 use borrow.Author.Needs.{needs}
 use lib.ListN.{length, drop}
-use Rattle.pick_lists.specs.Sound.{finiteCoordinates}
+use Rattle.pick_lists.specs.Inner.{finiteCoordinates}
 use Rattle.pick_lists.proofs.SoundLists.{coordinates-step, coordinates-none}
 use Rattle.pick_lists.proofs.coordinates_finite.Statement.{statement}
 use Rattle.pick_lists.proofs.coordinates_finite.Tie as tie
@@ -18,21 +18,6 @@ abbrev μ-loop : tie.MeasureT-loop
 
 loop-holds : tie.Need-loop-holds Inv-loop μ-loop
 loop-holds c = (search needs, refl)
-
-mul-is-finite32 : tie.Need-mul-is-finite32 Inv-loop μ-loop
-mul-is-finite32 c = search needs
-
-shared-slice-read-is-finite32 : tie.Need-shared-slice-read-is-finite32 Inv-loop μ-loop
-shared-slice-read-is-finite32 c = search needs
-
-is-finite32-requires : tie.Need-is-finite32-requires Inv-loop μ-loop
-is-finite32-requires c κs = search needs
-
-add-i : tie.Need-add-i Inv-loop μ-loop
-add-i c = search needs
-
-loop-less : tie.Need-loop-less Inv-loop μ-loop
-loop-less c = search needs
 
 loop-again : tie.Need-loop-again Inv-loop μ-loop
 loop-again c =
@@ -53,10 +38,10 @@ coordinates-finite-spec =
     Inv-loop
     μ-loop
     loop-holds
-    mul-is-finite32
-    shared-slice-read-is-finite32
-    is-finite32-requires
-    add-i
-    loop-less
+    (λ c. search needs)
+    (λ c. search needs)
+    (λ c κs. search needs)
+    (λ c. search needs)
+    (λ c. search needs)
     loop-again
     returns)

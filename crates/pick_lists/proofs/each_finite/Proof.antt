@@ -20,12 +20,6 @@ abbrev μ-loop : tie.MeasureT-loop
 loop-holds : tie.Need-loop-holds Inv-loop μ-loop
 loop-holds c = (search needs, refl)
 
-mul-named : tie.Need-mul-named Inv-loop μ-loop
-mul-named c = search needs
-
-shared-slice-read-named : tie.Need-shared-slice-read-named Inv-loop μ-loop
-shared-slice-read-named c = search needs
-
 cast-named : tie.Need-cast-named Inv-loop μ-loop
 cast-named c = omega (arith, c .shared-slice-known3 .given (c .before .before .loop .j))
 
@@ -38,12 +32,6 @@ returns c =
     let at = inside .before in
     let st = at .before .before .before in
     sym (finite-hit (st .args .xs .now) (st .args .picks .now) (at .loop .j) (inside .loop-test .taken) (sym (c .before .named .ensures) ∙ not-true (c .before .named .result) (c .if1 .taken))) ∙ at .loop .inv .1
-
-add-j : tie.Need-add-j Inv-loop μ-loop
-add-j c = search needs
-
-loop-less : tie.Need-loop-less Inv-loop μ-loop
-loop-less c = search needs
 
 loop-again : tie.Need-loop-again Inv-loop μ-loop
 loop-again c =
@@ -65,12 +53,12 @@ each-finite-spec =
     Inv-loop
     μ-loop
     loop-holds
-    mul-named
-    shared-slice-read-named
+    (λ c. search needs)
+    (λ c. search needs)
     cast-named
     named-requires
     returns
-    add-j
-    loop-less
+    (λ c. search needs)
+    (λ c. search needs)
     loop-again
     returns-2)

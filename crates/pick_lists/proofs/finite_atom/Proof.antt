@@ -5,15 +5,9 @@ use Rattle.pick_lists.specs.Sound.{finiteAtom}
 use Rattle.pick_lists.proofs.finite_atom.Statement.{statement}
 use Rattle.pick_lists.proofs.finite_atom.Tie as tie
 
-point-requires : tie.Need-point-requires
-point-requires c κs = search needs
-
-is-finite-requires : tie.Need-is-finite-requires
-is-finite-requires c κs = search needs
-
 returns : tie.Need-returns
 unfolding finiteAtom
 returns c = rw (c .is-finite .ensures, c .before .point .ensures)
 
 pub finite-atom-spec : {M : Type 1} → statement M
-finite-atom-spec = tie.close (tie.spec point-requires is-finite-requires returns)
+finite-atom-spec = tie.close (tie.spec (λ c κs. search needs) (λ c κs. search needs) returns)

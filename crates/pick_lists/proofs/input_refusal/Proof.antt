@@ -6,24 +6,18 @@ use Rattle.pick_lists.proofs.InputRefusals.{input-frame, input-unsound,
 use Rattle.pick_lists.proofs.input_refusal.Statement.{statement}
 use Rattle.pick_lists.proofs.input_refusal.Tie as tie
 
-frame-refusal-requires : tie.Need-frame-refusal-requires
-frame-refusal-requires c κs = search needs
-
 returns : tie.Need-returns
-returns c = input-frame _ _ _ _ _ _ (c .before .frame-refusal .ensures) (c .if1 .taken)
-
-is-sound-requires : tie.Need-is-sound-requires
-is-sound-requires c κs = search needs
+returns c = input-frame _ _ (c .before .frame-refusal .ensures) (c .if1 .taken)
 
 returns-2 : tie.Need-returns-2
 returns-2 c =
     let e = c .before .before in
-    input-unsound _ _ _ _ _ (sym (e .before .frame-refusal .ensures) ∙ e .if1 .left) (sym (c .before .is-sound .ensures) ∙ not-true _ (c .if2 .taken))
+    input-unsound _ (sym (e .before .frame-refusal .ensures) ∙ e .if1 .left) (sym (c .before .is-sound .ensures) ∙ not-true _ (c .if2 .taken))
 
 returns-3 : tie.Need-returns-3
 returns-3 c =
     let e = c .before .before in
-    input-sound _ _ _ _ _ (sym (e .before .frame-refusal .ensures) ∙ e .if1 .left) (sym (c .before .is-sound .ensures) ∙ not-false _ (c .if2 .left))
+    input-sound _ (sym (e .before .frame-refusal .ensures) ∙ e .if1 .left) (sym (c .before .is-sound .ensures) ∙ not-false _ (c .if2 .left))
 
 pub input-refusal-spec : {M : Type 1} → statement M
-input-refusal-spec = tie.close (tie.spec frame-refusal-requires returns is-sound-requires returns-2 returns-3)
+input-refusal-spec = tie.close (tie.spec (λ c κs. search needs) returns (λ c κs. search needs) returns-2 returns-3)

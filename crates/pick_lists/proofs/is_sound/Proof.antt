@@ -5,15 +5,9 @@ use borrow.Author.Needs.{needs}
 use Rattle.pick_lists.proofs.is_sound.Statement.{statement}
 use Rattle.pick_lists.proofs.is_sound.Tie as tie
 
-starts-sound-requires : tie.Need-starts-sound-requires
-starts-sound-requires c κs = search needs
-
 returns : tie.Need-returns
 unfolding soundLists
 returns c = rw (← c .before .starts-sound .ensures, not-true (c .before .starts-sound .result) (c .if1 .taken))
-
-all-finite-requires : tie.Need-all-finite-requires
-all-finite-requires c κs = search needs
 
 returns-2 : tie.Need-returns-2
 unfolding soundLists
@@ -22,4 +16,4 @@ returns-2 c =
     rw (← within .before .starts-sound .ensures, not-false (within .before .starts-sound .result) (within .if1 .left)) (c .all-finite .ensures)
 
 pub is-sound-spec : {M : Type 1} → statement M
-is-sound-spec = tie.close (tie.spec starts-sound-requires returns all-finite-requires returns-2)
+is-sound-spec = tie.close (tie.spec (λ c κs. search needs) returns (λ c κs. search needs) returns-2)

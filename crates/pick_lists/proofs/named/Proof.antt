@@ -6,12 +6,6 @@ use borrow.Author.Tests.{lt-ltb, le-ltb}
 use Rattle.pick_lists.proofs.named.Statement.{statement}
 use Rattle.pick_lists.proofs.named.Tie as tie
 
-add-finite-atom : tie.Need-add-finite-atom
-add-finite-atom c = search needs
-
-finite-atom-requires : tie.Need-finite-atom-requires
-finite-atom-requires c κs = search needs
-
 returns : tie.Need-returns
 returns c =
     let st = c .before .before .before in
@@ -23,4 +17,4 @@ returns-2 c =
     rw (le-ltb (st .args .i) (st .args .per) (omega arith))
 
 pub named-spec : {M : Type 1} → statement M
-named-spec = tie.close (tie.spec add-finite-atom finite-atom-requires returns returns-2)
+named-spec = tie.close (tie.spec (λ c. search needs) (λ c κs. search needs) returns returns-2)

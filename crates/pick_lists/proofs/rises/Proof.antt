@@ -19,27 +19,6 @@ abbrev μ-loop : tie.MeasureT-loop
 loop-holds : tie.Need-loop-holds Inv-loop μ-loop
 loop-holds c = (search needs, refl)
 
-sub-all : tie.Need-sub-all Inv-loop μ-loop
-sub-all c = search needs
-
-mul-all : tie.Need-mul-all Inv-loop μ-loop
-mul-all c = search needs
-
-shared-slice-read-all : tie.Need-shared-slice-read-all Inv-loop μ-loop
-shared-slice-read-all c = search needs
-
-mul-all-2 : tie.Need-mul-all-2 Inv-loop μ-loop
-mul-all-2 c = search needs
-
-shared-slice-read-all-2 : tie.Need-shared-slice-read-all-2 Inv-loop μ-loop
-shared-slice-read-all-2 c = search needs
-
-add-i : tie.Need-add-i Inv-loop μ-loop
-add-i c = search needs
-
-loop-less : tie.Need-loop-less Inv-loop μ-loop
-loop-less c = search needs
-
 loop-again : tie.Need-loop-again Inv-loop μ-loop
 loop-again c =
     let inside = c .before .before in
@@ -59,12 +38,12 @@ rises-spec =
     Inv-loop
     μ-loop
     loop-holds
-    sub-all
-    mul-all
-    shared-slice-read-all
-    mul-all-2
-    shared-slice-read-all-2
-    add-i
-    loop-less
+    (λ c. search needs)
+    (λ c. search needs)
+    (λ c. search needs)
+    (λ c. search needs)
+    (λ c. search needs)
+    (λ c. search needs)
+    (λ c. search needs)
     loop-again
     returns)

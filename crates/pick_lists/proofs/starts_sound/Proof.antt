@@ -9,9 +9,6 @@ use Rattle.pick_lists.proofs.SoundLists.{starts-outside, starts-number,
 use Rattle.pick_lists.proofs.starts_sound.Statement.{statement}
 use Rattle.pick_lists.proofs.starts_sound.Tie as tie
 
-add-if1 : tie.Need-add-if1
-add-if1 c = search needs
-
 returns : tie.Need-returns
 returns c =
     let st = c .before .before in
@@ -22,12 +19,6 @@ sub-last c = omega (arith, starts-number (length (c .before .before .args .start
 
 shared-slice-read-result : tie.Need-shared-slice-read-result
 shared-slice-read-result c = omega (arith, starts-number (length (c .before .before .before .args .starts .now)) (c .before .if1 .left))
-
-rises-requires : tie.Need-rises-requires
-rises-requires c κs = search needs
-
-mul-result : tie.Need-mul-result
-mul-result c = search needs
 
 shared-slice-read-result-2 : tie.Need-shared-slice-read-result-2
 shared-slice-read-result-2 c =
@@ -47,12 +38,12 @@ pub starts-sound-spec : {M : Type 1} → statement M
 starts-sound-spec =
     tie.close
     (tie.spec
-    add-if1
+    (λ c. search needs)
     returns
     sub-last
     shared-slice-read-result
-    rises-requires
-    mul-result
+    (λ c κs. search needs)
+    (λ c. search needs)
     shared-slice-read-result-2
     cast-result
     returns-2)

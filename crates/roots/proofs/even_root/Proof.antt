@@ -5,18 +5,6 @@ use Rattle.floats.proofs.RootCut.{even-exponent, even-digits, even-lt}
 use Rattle.roots.proofs.even_root.Statement.{statement}
 use Rattle.roots.proofs.even_root.Tie as tie
 
-add-root : tie.Need-add-root
-add-root c = search needs
-
-root-requires : tie.Need-root-requires
-root-requires c κs = search needs
-
-add-t6 : tie.Need-add-t6
-add-t6 c = search needs
-
-sub-t7 : tie.Need-sub-t7
-sub-t7 c = search needs
-
 add-t8 : tie.Need-add-t8
 add-t8 c =
     let s = c .before in
@@ -32,4 +20,4 @@ returns c =
     )
 
 pub even-root-spec : {M : Type 1} → statement M
-even-root-spec = tie.close (tie.spec add-root root-requires add-t6 sub-t7 add-t8 returns)
+even-root-spec = tie.close (tie.spec (λ c. search needs) (λ c κs. search needs) (λ c. search needs) (λ c. search needs) add-t8 returns)

@@ -10,15 +10,6 @@ use Rattle.floats.proofs.Through.{by-bits}
 use Rattle.roots.proofs.sqrt32.Statement.{statement}
 use Rattle.roots.proofs.sqrt32.Tie as tie
 
-to-bits32-requires : tie.Need-to-bits32-requires
-to-bits32-requires c κs = search needs
-
-sqrt-bits32-requires : tie.Need-sqrt-bits32-requires
-sqrt-bits32-requires c κs = search needs
-
-from-bits32-requires : tie.Need-from-bits32-requires
-from-bits32-requires c κs = search needs
-
 held : (c : tie.Start) → T (fits binary32 (c .args .x))
 held c = subst T (sym (c .good .0 .1)) tt
 
@@ -29,4 +20,4 @@ returns c =
     ∙ by-bits binary32 binary32 (sqrtOf binary32) (s .args .x) (c .before .sqrt-bits32 .result) (held s) (sqrt-fits binary32 (s .args .x) (held s)) (c .before .sqrt-bits32 .ensures ∙ ap (λ (n : ℕ). toBits binary32 (sqrtOf binary32 (ofBits binary32 n))) (c .before .before .to-bits32 .ensures))
 
 pub sqrt32-spec : {M : Type 1} → statement M
-sqrt32-spec = tie.close (tie.spec to-bits32-requires sqrt-bits32-requires from-bits32-requires returns)
+sqrt32-spec = tie.close (tie.spec (λ c κs. search needs) (λ c κs. search needs) (λ c κs. search needs) returns)

@@ -10,15 +10,6 @@ use Rattle.floats.proofs.Through.{by-bits}
 use Rattle.roots.proofs.sqrt64.Statement.{statement}
 use Rattle.roots.proofs.sqrt64.Tie as tie
 
-to-bits64-requires : tie.Need-to-bits64-requires
-to-bits64-requires c κs = search needs
-
-sqrt-bits64-requires : tie.Need-sqrt-bits64-requires
-sqrt-bits64-requires c κs = search needs
-
-from-bits64-requires : tie.Need-from-bits64-requires
-from-bits64-requires c κs = search needs
-
 held : (c : tie.Start) → T (fits binary64 (c .args .x))
 held c = subst T (sym (c .good .0 .1)) tt
 
@@ -29,4 +20,4 @@ returns c =
     ∙ by-bits binary64 binary64 (sqrtOf binary64) (s .args .x) (c .before .sqrt-bits64 .result) (held s) (sqrt-fits binary64 (s .args .x) (held s)) (c .before .sqrt-bits64 .ensures ∙ ap (λ (n : ℕ). toBits binary64 (sqrtOf binary64 (ofBits binary64 n))) (c .before .before .to-bits64 .ensures))
 
 pub sqrt64-spec : {M : Type 1} → statement M
-sqrt64-spec = tie.close (tie.spec to-bits64-requires sqrt-bits64-requires from-bits64-requires returns)
+sqrt64-spec = tie.close (tie.spec (λ c κs. search needs) (λ c κs. search needs) (λ c κs. search needs) returns)

@@ -71,12 +71,6 @@ returns-5 c = subnormal (c .before .before) .0
 cast-root-of-2 : tie.Need-cast-root-of-2
 cast-root-of-2 c = omega (arith, lead-is binary32 (c .before .before .before .before .before .args .b))
 
-cast-root-of-3 : tie.Need-cast-root-of-3
-cast-root-of-3 c = search needs
-
-add-root-of : tie.Need-add-root-of
-add-root-of c = search needs
-
 root-of-requires-2 : tie.Need-root-of-requires-2
 root-of-requires-2 c κs = omega (arith, normal-up (c .before .before .before .before .before .args .b), finite (c .before))
 
@@ -115,8 +109,8 @@ sqrt-bits32-spec =
     cast-result
     returns-5
     cast-root-of-2
-    cast-root-of-3
-    add-root-of
+    (λ c. search needs)
+    (λ c. search needs)
     root-of-requires-2
     add-result-2
     cast-result-2

@@ -49,9 +49,6 @@ returns-5 : tie.Need-returns-5
 returns-5 c = subnormal (c .before .before) .0
 
 -- ---- a normal number
-add-root-of : tie.Need-add-root-of
-add-root-of c = search needs
-
 root-of-requires-2 : tie.Need-root-of-requires-2
 root-of-requires-2 c κs = omega (arith, lead-is binary64 (c .before .before .before .before .before .args .b), finite (c .before))
 
@@ -85,7 +82,7 @@ sqrt-bits64-spec =
     root-of-requires
     add-result
     returns-5
-    add-root-of
+    (λ c. search needs)
     root-of-requires-2
     add-result-2
     returns-6)

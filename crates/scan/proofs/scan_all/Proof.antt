@@ -5,32 +5,24 @@ use borrow.Author.Needs.{needs}
 use Rattle.scan.proofs.scan_all.Statement.{statement}
 use Rattle.scan.proofs.scan_all.Tie as tie
 
-slice-aggregate-fill-boxes : tie.Need-slice-aggregate-fill-boxes
-slice-aggregate-fill-boxes c = search needs
+-- landmarks: from a place back to an earlier one
+abbrev start : tie.After-slice-known → tie.Start
+start c = c .before .before .before .before
 
-fill-boxes-requires : tie.Need-fill-boxes-requires
-fill-boxes-requires c κs = let st = c .before .before .before .before .before .before .before in (accepted-sound _ _ _ _ (st .pre .0), omega (arith, accepted-lists _ _ _ _ (st .pre .0) .few))
+abbrev entered : tie.After-fill-spans → tie.After-slice-known
+entered c = c .before .before .before .before
 
-gates-of-requires : tie.Need-gates-of-requires
-gates-of-requires c κs = search needs
+abbrev filled : tie.After-gates-of → tie.After-fill-spans
+filled c = c .before .before
 
-slice-aggregate-scan-rows : tie.Need-slice-aggregate-scan-rows
-slice-aggregate-scan-rows c = search needs
-
-slice-aggregate-scan-rows-2 : tie.Need-slice-aggregate-scan-rows-2
-slice-aggregate-scan-rows-2 c = search needs
+fill-spans-requires : tie.Need-fill-spans-requires
+fill-spans-requires c κs = let st = start (c .before .before .before) in (accepted-sound _ (st .pre .0), omega (arith, accepted-lists _ (st .pre .0) .few))
 
 scan-rows-requires : tie.Need-scan-rows-requires
 scan-rows-requires c κs =
-    let st = c .before .before .before .before .before .before .before .before .before .before .before .before .before in
-    let n = accepted-lists _ _ _ _ (st .pre .0) .few in
-    (st .pre .0, (st .pre .1, ((c .before .before .before .gates-of .ensures, omega (arith, n), omega (arith, n)), c .before .before .before .before .before .fill-boxes .ensures .0)))
-
-same-length : tie.Need-same-length
-same-length c = search needs
-
-returns : tie.Need-returns
-returns c = search needs
+    let st = start (entered (filled (c .before .before .before))) in
+    let n = accepted-lists _ (st .pre .0) .few in
+    (st .pre .0, (st .pre .1, ((c .before .before .before .gates-of .ensures, omega (arith, n), omega (arith, n)), filled (c .before .before .before) .fill-spans .ensures .0)))
 
 pub scan-all-spec : {M : Type 1} → statement M
 scan-all-spec =
@@ -38,11 +30,11 @@ scan-all-spec =
     (tie.spec
     (λ c κs. search needs)
     (λ c κs. search needs)
-    slice-aggregate-fill-boxes
-    fill-boxes-requires
-    gates-of-requires
-    slice-aggregate-scan-rows
-    slice-aggregate-scan-rows-2
+    (λ c. search needs)
+    fill-spans-requires
+    (λ c κs. search needs)
+    (λ c. search needs)
+    (λ c. search needs)
     scan-rows-requires
-    same-length
-    returns)
+    (λ c. search needs)
+    (λ c. search needs))

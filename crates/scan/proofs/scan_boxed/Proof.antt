@@ -1,10 +1,12 @@
 -- `scan::scan_boxed` meets its contract: as `clusters::scan_row`, with the flags that `mark_apart` has set. Assumes nothing.
 use mathlib.Core.Path.{sym, _∙_}
 use mathlib.Core.Logic.{⊎-elim}
+use mathlib.Core.List.{[]}
 use Prim.Native.Nat.{_-_}
 use native.Mathlib.Omega.{arith}
+use Rattle.pick_lists.specs.Input.{given}
 use Rattle.touch.specs.Touch.{copiesTouch}
-use Rattle.box_table.proofs.Flags.{flag-after}
+use Rattle.span_table.proofs.Flags.{flag-after}
 use Rattle.cluster_table.proofs.Checks.{ready-of}
 use Rattle.clusters.proofs.Accepted.{accepted-sound, accepted-lists, accepted-tested}
 use Rattle.clusters.proofs.Passes.{Run, run-first, run-skip, run-touch, run-last, run-asks}
@@ -13,62 +15,78 @@ use Rattle.scan.proofs.scan_boxed.Statement.{statement}
 use Rattle.scan.proofs.scan_boxed.Tie as tie
 
 abbrev Inv-loop : tie.InvT-loop
-Inv-loop cell g solutes starts picks room flags table₀ i n k₀ table k = Run (copiesTouch cell solutes starts picks) n i table₀ table k
+Inv-loop cell g solutes starts picks room flags table₀ i n k₀ table k = Run (copiesTouch (given cell solutes [] starts picks)) n i table₀ table k
 
 abbrev μ-loop : tie.MeasureT-loop
 μ-loop cell g solutes starts picks room flags table₀ i n k₀ table k = n - k
 
+-- landmarks: from a place back to an earlier one
+abbrev start : tie.After-slice-known2 Inv-loop μ-loop → tie.Start Inv-loop μ-loop
+start c = c .before .before .before .before .before .before
+
+abbrev entered : tie.After-mark-apart Inv-loop μ-loop → tie.After-slice-known2 Inv-loop μ-loop
+entered c = c .before .before
+
+abbrev marked : tie.At-loop Inv-loop μ-loop → tie.After-mark-apart Inv-loop μ-loop
+marked c = c .before .before .before
+
+abbrev going : tie.After-marked-touch Inv-loop μ-loop → tie.In-loop Inv-loop μ-loop
+going c = c .before .before
+
+abbrev left : tie.After-set-mark Inv-loop μ-loop → tie.After-loop Inv-loop μ-loop
+left c = c .before .before
+
+abbrev turn : tie.After-marked-touch Inv-loop μ-loop → tie.At-loop Inv-loop μ-loop
+turn c = going c .before
+
+abbrev startOf : tie.At-loop Inv-loop μ-loop → tie.Start Inv-loop μ-loop
+startOf c = start (entered (marked c))
+
 sub-n : tie.Need-sub-n Inv-loop μ-loop
-sub-n c = omega (arith, accepted-lists _ _ _ _ (c .before .before .before .before .before .before .pre .0) .number)
+sub-n c = omega (arith, accepted-lists _ (start c .pre .0) .number)
 
 mark-apart-requires : tie.Need-mark-apart-requires Inv-loop μ-loop
-mark-apart-requires c κs = let st = c .before .before .before .before .before .before .before in (accepted-lists _ _ _ _ (st .pre .0) .few, st .pre .1 .0 .2, st .pre .1 .1 .0 .1, st .pre .1 .1 .0 .2)
+mark-apart-requires c κs = let st = start (c .before) in (accepted-lists _ (st .pre .0) .few, st .pre .1 .0 .2, st .pre .1 .1 .0 .1, st .pre .1 .1 .0 .2)
 
 add-k : tie.Need-add-k Inv-loop μ-loop
-add-k c = let st = c .before .before .before .before .before .before .before .before .before .before in omega (arith, accepted-lists _ _ _ _ (st .pre .0) .few, st .pre .1 .0 .2)
+add-k c = let st = start (entered (c .before .before)) in omega (arith, accepted-lists _ (st .pre .0) .few, st .pre .1 .0 .2)
 
 loop-holds : tie.Need-loop-holds Inv-loop μ-loop
 loop-holds c =
-    let st = c .before .before .before .before .before .before .before .before .before .before in
-    let ls = accepted-lists _ _ _ _ (st .pre .0) in
+    let st = start (entered (c .before .before)) in
+    let ls = accepted-lists _ (st .pre .0) in
     run-first (ls .few) (st .pre .1 .0 .0) (st .pre .1 .0 .2) (ready-of _ _ (ls .few) (st .pre .1 .0 .1))
 
 marked-touch-requires : tie.Need-marked-touch-requires Inv-loop μ-loop
 marked-touch-requires c κs =
-    let st = c .before .before .before .before .before .before .before .before .before .before .before .before .before in
+    let st = startOf (c .before .before) in
     let h = st .pre .0 in
-    (accepted-sound _ _ _ _ h, ((st .pre .1 .1 .0 .0, accepted-tested _ _ _ _ h), (st .pre .1 .1 .1, ((st .pre .1 .0 .2, c .before .loop-test .taken, st .pre .1 .1 .0 .1), (omega (arith, st .pre .1 .1 .0 .2), rw (c .before .before .before .before .before .mark-apart .ensures) (flag-after _ _ _ _ _ _ (st .pre .1 .1 .0 .2) (c .before .before .loop .inv .ahead) (c .before .loop-test .taken)))))))
+    (accepted-sound _ h, ((st .pre .1 .1 .0 .0, accepted-tested _ h), (st .pre .1 .1 .1, ((st .pre .1 .0 .2, c .before .loop-test .taken, st .pre .1 .1 .0 .1), (omega (arith, st .pre .1 .1 .0 .2), rw (marked (c .before .before) .mark-apart .ensures) (flag-after _ _ _ _ _ _ (st .pre .1 .1 .0 .2) (c .before .before .loop .inv .ahead) (c .before .loop-test .taken)))))))
 
 add-contact-requires : tie.Need-add-contact-requires Inv-loop μ-loop
 add-contact-requires c κs =
-    let st = c .before .before .before .before .before .before .before .before .before .before .before .before .before .before .before .before in
-    run-asks (c .before .before .before .before .before .loop .inv) (accepted-lists _ _ _ _ (st .pre .0) .few) (c .before .before .before .before .loop-test .taken)
+    let st = startOf (turn (c .before .before)) in
+    run-asks (turn (c .before .before) .loop .inv) (accepted-lists _ (st .pre .0) .few) (going (c .before .before) .loop-test .taken)
 
 add-k-2 : tie.Need-add-k-2 Inv-loop μ-loop
-add-k-2 c = let st = c .before .before .before .before .before .before .before .before .before .before .before .before .before .before .before in omega (arith, accepted-lists _ _ _ _ (st .pre .0) .few)
-
-loop-less : tie.Need-loop-less Inv-loop μ-loop
-loop-less c = search needs
+add-k-2 c = let st = startOf (turn (c .before)) in omega (arith, accepted-lists _ (st .pre .0) .few)
 
 loop-again : tie.Need-loop-again Inv-loop μ-loop
 loop-again c =
-    let b = c .before .before .before .before in
+    let b = turn (c .before) in
     ⊎-elim
-    (λ w. rw (w .5 ∙ w .2 .ensures) (run-touch (b .loop .inv) (c .before .before .before .loop-test .taken) (sym (c .before .marked-touch .ensures) ∙ w .0 .taken)))
-    (λ w. rw (w .1) (run-skip (b .loop .inv) (c .before .before .before .loop-test .taken) (sym (c .before .marked-touch .ensures) ∙ w .0 .left)))
+    (λ w. rw (w .5 ∙ w .2 .ensures) (run-touch (b .loop .inv) (going (c .before) .loop-test .taken) (sym (c .before .marked-touch .ensures) ∙ w .0 .taken)))
+    (λ w. rw (w .1) (run-skip (b .loop .inv) (going (c .before) .loop-test .taken) (sym (c .before .marked-touch .ensures) ∙ w .0 .left)))
     (c .if1 .came)
 
 set-mark-requires : tie.Need-set-mark-requires Inv-loop μ-loop
-set-mark-requires c κs = let st = c .before .before .before .before .before .before .before .before .before .before .before .before .before in (accepted-lists _ _ _ _ (st .pre .0) .few, c .before .before .loop .inv .long, st .pre .1 .0 .2)
-
-same-length : tie.Need-same-length Inv-loop μ-loop
-same-length c = search needs
+set-mark-requires c κs = let st = startOf (c .before .before) in (accepted-lists _ (st .pre .0) .few, c .before .before .loop .inv .long, st .pre .1 .0 .2)
 
 same-length-2 : tie.Need-same-length-2 Inv-loop μ-loop
-same-length-2 c = search (needs, c .before .before .before .before .before .loop .inv .same)
+same-length-2 c = search (needs, left (c .before .before) .before .loop .inv .same)
 
 returns : tie.Need-returns Inv-loop μ-loop
-returns c = c .before .before .set-mark .ensures ∙ run-last (c .before .before .before .before .before .loop .inv) (c .before .before .before .before .loop-test .left)
+returns c = c .before .before .set-mark .ensures ∙ run-last (left (c .before .before) .before .loop .inv) (left (c .before .before) .loop-test .left)
 
 pub scan-boxed-spec : {M : Type 1} → statement M
 scan-boxed-spec =
@@ -83,9 +101,9 @@ scan-boxed-spec =
     marked-touch-requires
     add-contact-requires
     add-k-2
-    loop-less
+    (λ c. search needs)
     loop-again
     set-mark-requires
-    same-length
+    (λ c. search needs)
     same-length-2
     returns)

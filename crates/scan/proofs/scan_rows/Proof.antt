@@ -1,13 +1,14 @@
 -- `scan::scan_rows` meets its contract. Invariant, before row i: the rows from i on give, over the table, what every row gives over the
 -- opened one (`Scan`); measure n - i. Assumes nothing.
 use mathlib.Core.Path.{_≡_, refl}
+use mathlib.Core.List.{[]}
 use Prim.Native.Nat.{_-_}
 use native.Mathlib.Omega.{arith}
 use native.Mathlib.Numerals.{add-one}
 use lib.ListN.{length}
 use Rattle.pick_lists.proofs.SoundLists.{sound-lists}
-use Rattle.clusters.specs.Order.{touchOf}
-use Rattle.scan.specs.Scan.{given, scanned}
+use Rattle.pick_lists.specs.Input.{Input, given}
+use Rattle.scan.specs.Scan.{scanned}
 use Rattle.clusters.proofs.Held.{sound-table}
 use Rattle.scan.proofs.Scans.{Scan, lists, few, scan-first, scan-next, scan-done}
 use borrow.Author.Needs.{needs}
@@ -15,41 +16,57 @@ use Rattle.scan.proofs.scan_rows.Statement.{statement}
 use Rattle.scan.proofs.scan_rows.Tie as tie
 
 abbrev Inv-loop : tie.InvT-loop
-Inv-loop cell g solutes starts picks room flags₀ table₀ copies i₀ flags table i = Scan (given cell solutes starts picks) table₀ table i × (length flags ≡ length flags₀)
+Inv-loop cell g solutes starts picks room flags₀ table₀ copies i₀ flags table i = Scan (given cell solutes [] starts picks) table₀ table i × (length flags ≡ length flags₀)
 
 abbrev μ-loop : tie.MeasureT-loop
 μ-loop cell g solutes starts picks room flags₀ table₀ copies i₀ flags table i = copies - i
 
+abbrev input : tie.Start Inv-loop μ-loop → Input
+input st = given (st .args .cell) (st .args .solutes .now) [] (st .args .starts .now) (st .args .picks .now)
+
+-- landmarks: from a place back to an earlier one
+abbrev start : tie.After-slice-known2 Inv-loop μ-loop → tie.Start Inv-loop μ-loop
+start c = c .before .before .before .before .before .before
+
+abbrev entered : tie.After-open-table Inv-loop μ-loop → tie.After-slice-known2 Inv-loop μ-loop
+entered c = c .before .before
+
+abbrev opened : tie.At-loop Inv-loop μ-loop → tie.After-open-table Inv-loop μ-loop
+opened c = c .before .before .before
+
+abbrev going : tie.After-scan-boxed Inv-loop μ-loop → tie.In-loop Inv-loop μ-loop
+going c = c .before .before .before
+
+abbrev boxed : tie.After-slice-known5 Inv-loop μ-loop → tie.After-scan-boxed Inv-loop μ-loop
+boxed c = c .before .before .before .before
+
+abbrev turn : tie.After-scan-boxed Inv-loop μ-loop → tie.At-loop Inv-loop μ-loop
+turn c = going c .before
+
+abbrev startOf : tie.At-loop Inv-loop μ-loop → tie.Start Inv-loop μ-loop
+startOf c = start (entered (opened c))
+
 sub-copies : tie.Need-sub-copies Inv-loop μ-loop
-sub-copies c = let st = c .before .before .before .before .before .before in omega (arith, sound-lists _ _ _ (lists (given (st .args .cell) (st .args .solutes .now) (st .args .starts .now) (st .args .picks .now)) (st .pre .0)) .number)
+sub-copies c = let st = start c in omega (arith, sound-lists _ _ _ (lists (input st) (st .pre .0)) .number)
 
 open-table-requires : tie.Need-open-table-requires Inv-loop μ-loop
-open-table-requires c κs = let st = c .before .before .before .before .before .before .before in (few (given (st .args .cell) (st .args .solutes .now) (st .args .starts .now) (st .args .picks .now)) (st .pre .0), st .pre .1 .0)
+open-table-requires c κs = let st = start (c .before) in (few (input st) (st .pre .0), st .pre .1 .0)
 
 loop-holds : tie.Need-loop-holds Inv-loop μ-loop
 loop-holds c =
-    let st = c .before .before .before .before .before .before .before .before .before .before in
-    let f = given (st .args .cell) (st .args .solutes .now) (st .args .starts .now) (st .args .picks .now) in
-    (rw (c .before .before .open-table .ensures) (scan-first f (st .pre .0) (st .args .table .now) (st .pre .1 .0)), refl)
+    let st = start (entered (c .before .before)) in
+    (rw (c .before .before .open-table .ensures) (scan-first (input st) (st .pre .0) (st .args .table .now) (st .pre .1 .0)), refl)
 
 scan-boxed-requires : tie.Need-scan-boxed-requires Inv-loop μ-loop
 scan-boxed-requires c κs =
-    let st = c .before .before .before .before .before .before .before .before .before .before .before .before .before .before in
+    let st = startOf (c .before .before .before) in
     let z = c .before .before .before .loop .inv .0 in
     (st .pre .0, ((z .state .long, sound-table (z .state), c .before .before .loop-test .taken), ((st .pre .1 .1 .0 .0, st .pre .1 .1 .0 .1, omega (arith, c .before .before .before .loop .inv .1, st .pre .1 .1 .0 .2)), st .pre .1 .1 .1)))
 
-add-i : tie.Need-add-i Inv-loop μ-loop
-add-i c = search needs
-
-loop-less : tie.Need-loop-less Inv-loop μ-loop
-loop-less c = search needs
-
 loop-again : tie.Need-loop-again Inv-loop μ-loop
-unfolding touchOf
 loop-again c =
-    let st = c .before .before .before .before .before .before .before .before .before .before .before .before .before .before .before .before .before .before .before in
-    let f = given (st .args .cell) (st .args .solutes .now) (st .args .starts .now) (st .args .picks .now) in
-    (rw (c .before .before .before .before .scan-boxed .ensures, add-one) (scan-next f (st .pre .0) (c .before .before .before .before .before .before .before .loop-test .taken) (c .before .before .before .before .before .before .before .before .loop .inv .0)), search (needs, c .before .before .before .before .before .before .before .before .loop .inv .1))
+    let st = startOf (turn (boxed c)) in
+    (rw (boxed c .scan-boxed .ensures, add-one) (scan-next (input st) (st .pre .0) (going (boxed c) .loop-test .taken) (turn (boxed c) .loop .inv .0)), search (needs, turn (boxed c) .loop .inv .1))
 
 same-length : tie.Need-same-length Inv-loop μ-loop
 same-length c = search (needs, c .before .loop .inv .1)
@@ -60,9 +77,8 @@ same-length-2 c = search (needs, c .before .loop .inv .0 .same)
 returns : tie.Need-returns Inv-loop μ-loop
 unfolding scanned
 returns c =
-    let st = c .before .before .before .before .before .before .before .before .before .before .before .before in
-    let f = given (st .args .cell) (st .args .solutes .now) (st .args .starts .now) (st .args .picks .now) in
-    scan-done f (st .pre .0) (st .args .table .now) (st .pre .1 .0) (c .before .before .before .before .open-table .ensures) (c .loop-test .left) (c .before .loop .inv .0)
+    let st = startOf (c .before) in
+    scan-done (input st) (st .pre .0) (st .args .table .now) (st .pre .1 .0) (opened (c .before) .open-table .ensures) (c .loop-test .left) (c .before .loop .inv .0)
 
 pub scan-rows-spec : {M : Type 1} → statement M
 scan-rows-spec =
@@ -74,8 +90,8 @@ scan-rows-spec =
     open-table-requires
     loop-holds
     scan-boxed-requires
-    add-i
-    loop-less
+    (λ c. search needs)
+    (λ c. search needs)
     loop-again
     same-length
     same-length-2

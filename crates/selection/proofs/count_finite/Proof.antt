@@ -5,13 +5,13 @@ use mathlib.Core.Logic.{⊎-elim}
 use Prim.Native.Nat.{_≤_, _<_, _+_, _-_}
 use native.Mathlib.Omega.{arith}
 use lib.ListN.{length}
-use Rattle.selection.specs.Selection.{finiteFrom}
+use Rattle.selection.specs.Selection.{finiteAtoms}
 use Rattle.selection.proofs.Picked.{finite-hit, finite-skip, finite-none, finite-all}
 use Rattle.selection.proofs.count_finite.Statement.{statement}
 use Rattle.selection.proofs.count_finite.Tie as tie
 
 abbrev Inv-loop : tie.InvT-loop
-Inv-loop xs per base n₀ k₀ n k = (k ≤ per) × (n ≤ k) × (n + length (finiteFrom xs (per - k) (base + k)) ≡ length (finiteFrom xs per base))
+Inv-loop xs per base n₀ k₀ n k = (k ≤ per) × (n ≤ k) × (n + length (finiteAtoms xs (per - k) (base + k)) ≡ length (finiteAtoms xs per base))
 
 abbrev μ-loop : tie.MeasureT-loop
 μ-loop xs per base n₀ k₀ n k = per - k

@@ -16,6 +16,13 @@ Inv-loop xs per base indices n₀ j₀ n j = (j ≤ length indices) × (n ≤ j)
 abbrev μ-loop : tie.MeasureT-loop
 μ-loop xs per base indices n₀ j₀ n j = length indices - j
 
+-- landmarks: from a place back to an earlier one
+abbrev start : tie.At-loop Inv-loop μ-loop → tie.Start Inv-loop μ-loop
+start c = c .before .before .before
+
+abbrev turn : tie.After-named Inv-loop μ-loop → tie.At-loop Inv-loop μ-loop
+turn c = c .before .before .before
+
 loop-holds : tie.Need-loop-holds Inv-loop μ-loop
 loop-holds c = omega arith
 
@@ -42,8 +49,8 @@ loop-less c = omega arith
 
 loop-again : tie.Need-loop-again Inv-loop μ-loop
 loop-again c =
-    let lo = c .before .before .before .before in
-    let a = lo .before .before .before .args in
+    let lo = turn (c .before) in
+    let a = start lo .args in
     let below : lo .loop .j < length (a .indices .now) = omega arith in
     ⊎-elim
     (λ w. omega (arith, ap length (indexed-hit (a .xs .now) (a .per) (a .base) (a .indices .now) (lo .loop .j) below (sym (c .before .named .ensures) ∙ w .0 .taken))))
@@ -52,7 +59,7 @@ loop-again c =
 
 returns : tie.Need-returns Inv-loop μ-loop
 returns c =
-    let a = c .before .before .before .before .args in
+    let a = start (c .before) .args in
     omega (arith, ap length (indexed-none (a .xs .now) (a .per) (a .base) (a .indices .now) (c .before .loop .j) (omega arith)))
 
 pub count-indexed-spec : {M : Type 1} → statement M

@@ -5,7 +5,7 @@ use mathlib.Core.Logic.{⊎-elim}
 use Prim.Native.Nat.{_≤_, _<_, _+_, _-_, _/_}
 use native.Mathlib.Omega.{arith}
 use lib.ListN.{length, length-set}
-use Rattle.cell.proofs.Tables.{placed-empty}
+use Rattle.base.proofs.Placing.{placed-empty}
 use Rattle.selection.specs.Selection.{keptCopies, picked}
 use Rattle.selection.proofs.Copies.{copiesLeft, left-all, left-none, left-joined, left-kept, left-vanished, kept-zero}
 use Rattle.selection.proofs.Writing.{Writing, writing-first, writing-next, writing-room, writing-last}
@@ -19,6 +19,19 @@ Inv-loop xs per indices starts₀ picks₀ atoms base₀ copies₀ at₀ starts 
 abbrev μ-loop : tie.MeasureT-loop
 μ-loop xs per indices starts₀ picks₀ atoms base₀ copies₀ at₀ starts picks base copies at = length xs / 3 - base
 
+-- landmarks: from a place back to an earlier one
+abbrev start : tie.After-slice-known2 Inv-loop μ-loop → tie.Start Inv-loop μ-loop
+start c = c .before .before .before .before
+
+abbrev copied : tie.After-slice-known3 Inv-loop μ-loop → tie.After-put-copy Inv-loop μ-loop
+copied c = c .before .before
+
+abbrev going : tie.After-put-copy Inv-loop μ-loop → tie.In-loop Inv-loop μ-loop
+going c = c .before .before
+
+abbrev startOf : tie.At-loop Inv-loop μ-loop → tie.Start Inv-loop μ-loop
+startOf c = start (c .before .before)
+
 slice-write-starts : tie.Need-slice-write-starts Inv-loop μ-loop
 slice-write-starts c = omega arith
 
@@ -27,14 +40,14 @@ same-length c = simp length-set
 
 returns : tie.Need-returns Inv-loop μ-loop
 returns c =
-    let st = c .before .before .before .before .before in
+    let st = start (c .before) in
     let a = st .args in
     let e = kept-zero (a .xs .now) (a .per) (a .indices .now) (c .if1 .taken) in
     rw e (writing-last (a .starts .now) (rw e at (writing-first (keptCopies (a .xs .now) (a .per) (a .indices .now)) (a .starts .now) (a .picks .now) (st .pre .1 .0) (st .pre .1 .1))))
 
 loop-holds : tie.Need-loop-holds Inv-loop μ-loop
 loop-holds c =
-    let st = c .before .before .before .before .before in
+    let st = start (c .before) in
     let a = st .args in
     (omega arith, omega arith, rw (left-all (a .xs .now) (a .per) (a .indices .now)) (writing-first (keptCopies (a .xs .now) (a .per) (a .indices .now)) (a .starts .now) (a .picks .now) (st .pre .1 .0) (st .pre .1 .1)))
 
@@ -44,32 +57,32 @@ sub-loop c = omega arith
 put-copy-requires : tie.Need-put-copy-requires Inv-loop μ-loop
 put-copy-requires c κs =
     let lo = c .before .before in
-    let a = lo .before .before .before .before .before .before .args in
+    let a = startOf lo .args in
     omega (arith, left-joined (a .xs .now) (a .per) (a .indices .now) (lo .loop .base) (lo .loop .inv .0) (c .before .loop-test .taken))
 
 add-copies : tie.Need-add-copies Inv-loop μ-loop
 add-copies c =
-    let lo = c .before .before .before .before .before .before in
-    let a = lo .before .before .before .before .before .before .args in
-    omega (arith, length-set (a .starts .now) 0 0, writing-room (a .xs .now) (a .per) (a .indices .now) (lo .loop .base) (lo .loop .inv .2) (lo .loop .inv .0) (c .before .before .before .before .before .loop-test .taken) (c .before .before .before .put-copy .ensures .0) (c .if2 .taken))
+    let lo = going (copied (c .before)) .before in
+    let a = startOf lo .args in
+    omega (arith, length-set (a .starts .now) 0 0, writing-room (a .xs .now) (a .per) (a .indices .now) (lo .loop .base) (lo .loop .inv .2) (lo .loop .inv .0) (going (copied (c .before)) .loop-test .taken) (copied (c .before) .put-copy .ensures .0) (c .if2 .taken))
 
 cast-starts : tie.Need-cast-starts Inv-loop μ-loop
 cast-starts c =
-    let lo = c .before .before .before .before .before .before in
-    let a = lo .before .before .before .before .before .before .args in
-    omega (arith, left-joined (a .xs .now) (a .per) (a .indices .now) (lo .loop .base) (lo .loop .inv .0) (c .before .before .before .before .before .loop-test .taken))
+    let lo = going (copied (c .before)) .before in
+    let a = startOf lo .args in
+    omega (arith, left-joined (a .xs .now) (a .per) (a .indices .now) (lo .loop .base) (lo .loop .inv .0) (going (copied (c .before)) .loop-test .taken))
 
 mul-starts : tie.Need-mul-starts Inv-loop μ-loop
 mul-starts c =
-    let lo = c .before .before .before .before .before .before in
-    let a = lo .before .before .before .before .before .before .args in
-    omega (arith, length-set (a .starts .now) 0 0, writing-room (a .xs .now) (a .per) (a .indices .now) (lo .loop .base) (lo .loop .inv .2) (lo .loop .inv .0) (c .before .before .before .before .before .loop-test .taken) (c .before .before .before .put-copy .ensures .0) (c .if2 .taken))
+    let lo = going (copied (c .before)) .before in
+    let a = startOf lo .args in
+    omega (arith, length-set (a .starts .now) 0 0, writing-room (a .xs .now) (a .per) (a .indices .now) (lo .loop .base) (lo .loop .inv .2) (lo .loop .inv .0) (going (copied (c .before)) .loop-test .taken) (copied (c .before) .put-copy .ensures .0) (c .if2 .taken))
 
 slice-write-starts-2 : tie.Need-slice-write-starts-2 Inv-loop μ-loop
 slice-write-starts-2 c =
-    let lo = c .before .before .before .before .before .before in
-    let a = lo .before .before .before .before .before .before .args in
-    omega (arith, writing-room (a .xs .now) (a .per) (a .indices .now) (lo .loop .base) (lo .loop .inv .2) (lo .loop .inv .0) (c .before .before .before .before .before .loop-test .taken) (c .before .before .before .put-copy .ensures .0) (c .if2 .taken))
+    let lo = going (copied (c .before)) .before in
+    let a = startOf lo .args in
+    omega (arith, writing-room (a .xs .now) (a .per) (a .indices .now) (lo .loop .base) (lo .loop .inv .2) (lo .loop .inv .0) (going (copied (c .before)) .loop-test .taken) (copied (c .before) .put-copy .ensures .0) (c .if2 .taken))
 
 add-base : tie.Need-add-base Inv-loop μ-loop
 add-base c = omega arith
@@ -79,9 +92,9 @@ loop-less c = omega arith
 
 loop-again : tie.Need-loop-again Inv-loop μ-loop
 loop-again c =
-    let inside = c .before .before .before .before .before in
+    let inside = going (copied (c .before)) in
     let lo = inside .before in
-    let a = lo .before .before .before .before .before .before .args in
+    let a = startOf lo .args in
     let base = lo .loop .base in
     let put = c .before .before .before .put-copy .ensures in
     let some = lo .loop .inv .0 in
@@ -103,7 +116,7 @@ same-length-3 c = omega arith
 returns-2 : tie.Need-returns-2 Inv-loop μ-loop
 returns-2 c =
     let lo = c .before in
-    let a = lo .before .before .before .before .before .before .args in
+    let a = startOf lo .args in
     writing-last (a .starts .now) (rw (left-none (a .xs .now) (a .per) (a .indices .now) (lo .loop .base) (c .loop-test .left)) at (lo .loop .inv .2))
 
 pub fill-spec : {M : Type 1} → statement M

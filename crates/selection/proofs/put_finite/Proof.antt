@@ -5,14 +5,14 @@ use mathlib.Core.Logic.{⊎-elim}
 use Prim.Native.Nat.{_≤_, _<_, _+_, _-_}
 use native.Mathlib.Omega.{arith}
 use lib.ListN.{length}
-use Rattle.cell.proofs.Tables.{Filling, filling-first, filling-next, filling-last}
-use Rattle.selection.specs.Selection.{finiteFrom}
+use Rattle.base.proofs.Filling.{Filling, filling-first, filling-next, filling-last}
+use Rattle.selection.specs.Selection.{finiteAtoms}
 use Rattle.selection.proofs.Picked.{finite-all, finite-hit, finite-skip, finite-none}
 use Rattle.selection.proofs.put_finite.Statement.{statement}
 use Rattle.selection.proofs.put_finite.Tie as tie
 
 abbrev Inv-loop : tie.InvT-loop
-Inv-loop xs per base picks₀ at end₀ k₀ picks end k = (k ≤ per) × Filling at (finiteFrom xs per base) picks₀ end (finiteFrom xs (per - k) (base + k)) picks
+Inv-loop xs per base picks₀ at end₀ k₀ picks end k = (k ≤ per) × Filling at (finiteAtoms xs per base) picks₀ end (finiteAtoms xs (per - k) (base + k)) picks
 
 abbrev μ-loop : tie.MeasureT-loop
 μ-loop xs per base picks₀ at end₀ k₀ picks end k = per - k

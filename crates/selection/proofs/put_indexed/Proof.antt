@@ -5,7 +5,7 @@ use mathlib.Core.Logic.{⊎-elim}
 use Prim.Native.Nat.{_≤_, _<_, _-_}
 use native.Mathlib.Omega.{arith}
 use lib.ListN.{length, drop}
-use Rattle.cell.proofs.Tables.{Filling, filling-first, filling-next, filling-last}
+use Rattle.base.proofs.Filling.{Filling, filling-first, filling-next, filling-last}
 use Rattle.selection.specs.Selection.{indexed}
 use Rattle.selection.proofs.Picked.{names-below, indexed-hit, indexed-skip, indexed-none}
 use Rattle.selection.proofs.put_indexed.Statement.{statement}
@@ -16,6 +16,13 @@ Inv-loop xs per base indices picks₀ at end₀ j₀ picks end j = (j ≤ length
 
 abbrev μ-loop : tie.MeasureT-loop
 μ-loop xs per base indices picks₀ at end₀ j₀ picks end j = length indices - j
+
+-- landmarks: from a place back to an earlier one
+abbrev start : tie.At-loop Inv-loop μ-loop → tie.Start Inv-loop μ-loop
+start c = c .before .before .before .before
+
+abbrev turn : tie.After-named Inv-loop μ-loop → tie.At-loop Inv-loop μ-loop
+turn c = c .before .before .before
 
 loop-holds : tie.Need-loop-holds Inv-loop μ-loop
 loop-holds c = (omega arith, filling-first (c .before .before .before .pre .1))
@@ -34,14 +41,14 @@ named-requires c κs = omega arith
 
 add-picks : tie.Need-add-picks Inv-loop μ-loop
 add-picks c =
-    let lo = c .before .before .before .before in
-    let a = lo .before .before .before .before .args in
+    let lo = turn (c .before) in
+    let a = start lo .args in
     omega (arith, names-below (a .xs .now) (a .per) (a .base) (a .indices .now) (lo .loop .j) (sym (c .before .named .ensures) ∙ c .if1 .taken))
 
 cast-picks : tie.Need-cast-picks Inv-loop μ-loop
 cast-picks c =
-    let lo = c .before .before .before .before in
-    let a = lo .before .before .before .before .args in
+    let lo = turn (c .before) in
+    let a = start lo .args in
     omega (arith, names-below (a .xs .now) (a .per) (a .base) (a .indices .now) (lo .loop .j) (sym (c .before .named .ensures) ∙ c .if1 .taken))
 
 mul-picks : tie.Need-mul-picks Inv-loop μ-loop
@@ -49,8 +56,8 @@ mul-picks c = omega arith
 
 slice-write-picks : tie.Need-slice-write-picks Inv-loop μ-loop
 slice-write-picks c =
-    let lo = c .before .before .before .before in
-    let a = lo .before .before .before .before .args in
+    let lo = turn (c .before) in
+    let a = start lo .args in
     omega (arith, ap length (indexed-hit (a .xs .now) (a .per) (a .base) (a .indices .now) (lo .loop .j) (omega arith) (sym (c .before .named .ensures) ∙ c .if1 .taken)))
 
 add-end : tie.Need-add-end Inv-loop μ-loop
@@ -64,8 +71,8 @@ loop-less c = omega arith
 
 loop-again : tie.Need-loop-again Inv-loop μ-loop
 loop-again c =
-    let lo = c .before .before .before .before in
-    let a = lo .before .before .before .before .args in
+    let lo = turn (c .before) in
+    let a = start lo .args in
     let below : lo .loop .j < length (a .indices .now) = omega arith in
     ⊎-elim
     (λ w. (omega arith, rw (w .1, w .2) (filling-next (rw (indexed-hit (a .xs .now) (a .per) (a .base) (a .indices .now) (lo .loop .j) below (sym (c .before .named .ensures) ∙ w .0 .taken)) at (lo .loop .inv .1)))))
@@ -78,7 +85,7 @@ same-length c = omega arith
 returns : tie.Need-returns Inv-loop μ-loop
 returns c =
     let lo = c .before in
-    let a = lo .before .before .before .before .args in
+    let a = start lo .args in
     let z = rw (indexed-none (a .xs .now) (a .per) (a .base) (a .indices .now) (lo .loop .j) (omega arith)) at (lo .loop .inv .1) in
     (omega (arith, z .left), filling-last z)
 

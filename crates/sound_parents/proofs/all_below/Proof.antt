@@ -7,8 +7,8 @@ use Prim.Native.Nat.{ℕ, _-_, _≤_, zero-le}
 use native.Mathlib.Omega.{arith}
 use lib.ListN.{length, getD}
 use lib.Dec.{ltb}
-use Rattle.union_find.specs.Range.{allBelow}
-use Rattle.union_find.proofs.Ranges.{all-none, all-next}
+use Rattle.base.specs.Range.{allBelow}
+use Rattle.base.proofs.Ranges.{all-none, all-next}
 use Rattle.sound_parents.proofs.all_below.Statement.{statement}
 use Rattle.sound_parents.proofs.all_below.Tie as tie
 

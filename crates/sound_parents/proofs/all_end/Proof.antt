@@ -9,8 +9,8 @@ use lib.ListN.{length}
 use borrow.Author.Count.{below-none, below-more}
 use borrow.Author.Tests.{not-true, not-false}
 use Rattle.union_find.specs.Parents.{reachesRoot}
-use Rattle.sound_parents.specs.Stamps.{Stamped}
-use Rattle.union_find.proofs.Ranges.{all-true, all-false}
+use Rattle.sound_parents.specs.Inner.{Stamped}
+use Rattle.base.proofs.Ranges.{all-true, all-false}
 use Rattle.sound_parents.proofs.all_end.Statement.{statement}
 use Rattle.sound_parents.proofs.all_end.Tie as tie
 
@@ -34,9 +34,6 @@ ends-requires c κs =
     let b = c .before .before in
     let st = b .before .before .before in
     (st .pre .0, ((c .before .loop-test .taken, omega (arith, b .loop .inv .1, st .pre .1 .0 .0), st .pre .1 .0 .1), b .loop .inv .2))
-
-same-length : tie.Need-same-length Inv-loop μ-loop
-same-length c = search needs
 
 returns : tie.Need-returns Inv-loop μ-loop
 returns c =
@@ -70,7 +67,7 @@ all-end-spec =
     loop-holds
     cast-ends
     ends-requires
-    same-length
+    (λ c. search needs)
     returns
     add-i
     loop-less

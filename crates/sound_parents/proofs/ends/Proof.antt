@@ -5,7 +5,7 @@ use mathlib.Core.Path.{_≡_, refl}
 use native.Mathlib.Omega.{arith}
 use lib.ListN.{length, getD, length-set}
 use lib.Dec.{eqb}
-use Rattle.union_find.specs.Range.{count}
+use Rattle.base.specs.Range.{count}
 use Rattle.union_find.proofs.Forest.{closed-of}
 use Rattle.sound_parents.proofs.Climbs.{Climb, climb-first, climb-next, climb-less, climb-root, climb-end}
 use Rattle.sound_parents.proofs.ends.Statement.{statement}

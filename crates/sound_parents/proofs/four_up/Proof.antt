@@ -4,14 +4,8 @@ use Rattle.union_find.proofs.Trails.{walk-four}
 use Rattle.sound_parents.proofs.four_up.Statement.{statement}
 use Rattle.sound_parents.proofs.four_up.Tie as tie
 
-two-up-requires : tie.Need-two-up-requires
-two-up-requires c κs = search needs
-
-two-up-requires-2 : tie.Need-two-up-requires-2
-two-up-requires-2 c κs = search needs
-
 returns : tie.Need-returns
 returns c = (walk-four _ _ _ _ (c .before .two-up .ensures .0) (c .two-up2 .ensures .0), c .two-up2 .ensures .1)
 
 pub four-up-spec : {M : Type 1} → statement M
-four-up-spec = tie.close (tie.spec two-up-requires two-up-requires-2 returns)
+four-up-spec = tie.close (tie.spec (λ c κs. search needs) (λ c κs. search needs) returns)

@@ -3,18 +3,13 @@
 use mathlib.Core.Path.{sym, _∙_}
 use borrow.Author.Needs.{needs}
 use borrow.Author.Tests.{not-true, not-false}
-use Rattle.union_find.proofs.Ranges.{all-true, all-at}
+use Rattle.base.specs.Limits.{maxCopies}
+use Rattle.base.proofs.Ranges.{all-true, all-at}
 use Rattle.union_find.proofs.Forest.{closed-of, sound-not, sound-rest}
 use Rattle.union_find.proofs.Trails.{reaches-within}
 use Rattle.sound_parents.proofs.Climbs.{stamped-none}
 use Rattle.sound_parents.proofs.is_sound.Statement.{statement}
 use Rattle.sound_parents.proofs.is_sound.Tie as tie
-
-cast-all-below : tie.Need-cast-all-below
-cast-all-below c = search needs
-
-all-below-requires : tie.Need-all-below-requires
-all-below-requires c κs = search needs
 
 returns : tie.Need-returns
 returns c = sound-not _ (sym (c .before .all-below .ensures) ∙ not-true _ (c .if1 .taken))
@@ -29,14 +24,11 @@ returns-2 c =
     let near = sym (c .before .shallow .ensures) ∙ c .if2 .taken in
     sym (all-true _ _ (λ k l. reaches-within 8 (closed-of _ low) l (all-at _ _ k near l))) ∙ sound-rest _ low
 
-slice-aggregate-all-end : tie.Need-slice-aggregate-all-end
-slice-aggregate-all-end c = search needs
-
 all-end-requires : tie.Need-all-end-requires
 all-end-requires c κs =
     let b = c .before .before .before in
     let st = b .before .before .before in
-    (sym (b .before .all-below .ensures) ∙ not-false _ (b .if1 .left), ((st .pre, st .pre), stamped-none _ 4096 (st .pre)))
+    (sym (b .before .all-below .ensures) ∙ not-false _ (b .if1 .left), ((st .pre, st .pre), stamped-none _ maxCopies (st .pre)))
 
 returns-3 : tie.Need-returns-3
 returns-3 c =
@@ -47,11 +39,11 @@ pub is-sound-spec : {M : Type 1} → statement M
 is-sound-spec =
     tie.close
     (tie.spec
-    cast-all-below
-    all-below-requires
+    (λ c. search needs)
+    (λ c κs. search needs)
     returns
     shallow-requires
     returns-2
-    slice-aggregate-all-end
+    (λ c. search needs)
     all-end-requires
     returns-3)

@@ -7,8 +7,8 @@ use native.Mathlib.Omega.{arith}
 use lib.ListN.{length}
 use borrow.Author.Count.{below-none, below-more}
 use borrow.Author.Tests.{not-true, not-false}
-use Rattle.union_find.specs.Parents.{rootWithin}
-use Rattle.union_find.proofs.Ranges.{all-true, all-false}
+use Rattle.union_find.specs.Inner.{rootWithin}
+use Rattle.base.proofs.Ranges.{all-true, all-false}
 use Rattle.sound_parents.proofs.shallow.Statement.{statement}
 use Rattle.sound_parents.proofs.shallow.Tie as tie
 

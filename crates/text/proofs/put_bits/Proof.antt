@@ -4,19 +4,13 @@ use borrow.Author.Needs.{needs}
 use Rattle.text.proofs.put_bits.Statement.{statement}
 use Rattle.text.proofs.put_bits.Tie as tie
 
-to-bits32-requires : tie.Need-to-bits32-requires
-to-bits32-requires c κs = search needs
-
 put-word-requires : tie.Need-put-word-requires
 unfolding hexBits
 put-word-requires c κs = rw (c .before .to-bits32 .ensures) (c .before .before .before .pre)
-
-same-length : tie.Need-same-length
-same-length c = search needs
 
 returns : tie.Need-returns
 unfolding hexBits
 returns c = rw (c .before .before .before .before .to-bits32 .ensures) at (c .before .before .put-word .ensures)
 
 pub put-bits-spec : {M : Type 1} → statement M
-put-bits-spec = tie.close (tie.spec to-bits32-requires put-word-requires same-length returns)
+put-bits-spec = tie.close (tie.spec (λ c κs. search needs) put-word-requires (λ c. search needs) returns)

@@ -5,9 +5,9 @@ use Prim.Native.Nat.{_≤_}
 use native.Mathlib.Nat.{mod-lt}
 use native.Mathlib.Omega.{arith}
 use lib.ListN.{length, length-set}
-use Rattle.cell.specs.Tables.{placed}
+use Rattle.base.specs.Tables.{placed}
 use Rattle.text.specs.Text.{digits}
-use Rattle.cell.proofs.Tables.{placed-empty}
+use Rattle.base.proofs.Placing.{placed-empty}
 use Rattle.text.proofs.Numerals.{length-digits}
 use Rattle.text.proofs.Writing.{placed-digit}
 use Rattle.text.proofs.put_digits.Statement.{statement}

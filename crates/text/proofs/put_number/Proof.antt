@@ -6,9 +6,6 @@ use Rattle.text.proofs.Writing.{digits-after, length-after}
 use Rattle.text.proofs.put_number.Statement.{statement}
 use Rattle.text.proofs.put_number.Tie as tie
 
-decimal-places-requires : tie.Need-decimal-places-requires
-decimal-places-requires c κs = search needs
-
 put-digits-requires : tie.Need-put-digits-requires
 unfolding decimal
 put-digits-requires c κs =
@@ -20,12 +17,6 @@ unfolding decimal
 slice-write-out c =
     let a = c .before .before .before .before .before .before .args in
     omega (arith, length-after 10 (places (a .n)) (a .n) (a .after))
-
-add-result : tie.Need-add-result
-add-result c = search needs
-
-same-length : tie.Need-same-length
-same-length c = search needs
 
 returns : tie.Need-returns
 unfolding decimal
@@ -40,9 +31,9 @@ pub put-number-spec : {M : Type 1} → statement M
 put-number-spec =
     tie.close
     (tie.spec
-    decimal-places-requires
+    (λ c κs. search needs)
     put-digits-requires
     slice-write-out
-    add-result
-    same-length
+    (λ c. search needs)
+    (λ c. search needs)
     returns)

@@ -15,23 +15,14 @@ wet : (w : ℕ) → (w ≡ 0 → ⊥) → occupancy w ≡ hex w
 unfolding occupancy
 wet w e = rw (ne-eqb w 0 e)
 
-slice-aggregate-put-text : tie.Need-slice-aggregate-put-text
-slice-aggregate-put-text c = search needs
-
 put-text-requires : tie.Need-put-text-requires
 put-text-requires c κs = rw (dry _ (c .before .before .if1 .taken)) at (c .before .before .before .before .pre)
-
-same-length : tie.Need-same-length
-same-length c = search needs
 
 returns : tie.Need-returns
 returns c = rw (dry _ (c .before .before .before .before .before .if1 .taken)) (c .before .before .put-text .ensures)
 
 put-word-requires : tie.Need-put-word-requires
 put-word-requires c κs = rw (wet _ (c .before .if1 .left)) at (c .before .before .before .pre)
-
-same-length-2 : tie.Need-same-length-2
-same-length-2 c = search needs
 
 returns-2 : tie.Need-returns-2
 returns-2 c = rw (wet _ (c .before .before .before .before .if1 .left)) (c .before .before .put-word .ensures)
@@ -40,10 +31,10 @@ pub put-occupancy-spec : {M : Type 1} → statement M
 put-occupancy-spec =
     tie.close
     (tie.spec
-    slice-aggregate-put-text
+    (λ c. search needs)
     put-text-requires
-    same-length
+    (λ c. search needs)
     returns
     put-word-requires
-    same-length-2
+    (λ c. search needs)
     returns-2)

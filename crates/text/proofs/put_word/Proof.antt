@@ -18,12 +18,6 @@ slice-write-out c =
     let a = c .before .before .before .before .before .args in
     omega (arith, length-after 16 8 (a .w) (a .after))
 
-add-result : tie.Need-add-result
-add-result c = search needs
-
-same-length : tie.Need-same-length
-same-length c = search needs
-
 returns : tie.Need-returns
 unfolding hex
 returns c =
@@ -34,4 +28,4 @@ returns c =
 
 pub put-word-spec : {M : Type 1} → statement M
 put-word-spec =
-    tie.close (tie.spec put-digits-requires slice-write-out add-result same-length returns)
+    tie.close (tie.spec put-digits-requires slice-write-out (λ c. search needs) (λ c. search needs) returns)

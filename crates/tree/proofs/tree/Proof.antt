@@ -1,175 +1,123 @@
 -- `tree::tree` meets its contract: a refusal of the tests leaves every table as it was; otherwise the builder's answer is Tree's, over the
 -- finite waters at the start of the local array (`over-waters`). Assumes nothing.
-use mathlib.Core.Path.{_≡_, sym, ap, ap₂, _∙_}
-use mathlib.Core.List.{List}
+use mathlib.Core.Path.{_≡_, sym, ap, subst, _∙_}
 use Prim.Native.Nat.{ℕ, _/_}
 use native.Mathlib.Omega.{arith}
 use borrow.Author.Needs.{needs}
 use lib.ListN.{length}
-use lib.Ieee.{Float}
-use Rattle.pick_lists.specs.Sound.{copiesIn}
-use Rattle.octree.specs.Tree.{Subtrees, treeRoom, treeRefusal, builtAnswer, builtNumber}
-use Rattle.points.specs.Points.{finiteWaters}
-use Rattle.tree.specs.Tree.{frameTree, treeOn, wholeRecords, treeCallRefusal, treeAnswer}
+use Rattle.base.specs.Refusals.{firstRefusal}
+use Rattle.pick_lists.specs.Input.{Input, given}
+use Rattle.octree.specs.declared.Built.{Built}
+use Rattle.octree.specs.Inner.{treeRoom, builtAnswer}
+use Rattle.octree.specs.Tree.{TreeTables, treeTables}
+use Rattle.tree.specs.Tree.{frameTree, testRefusals, wholeRecords, treeAnswer, treeAfter}
 use Rattle.points.proofs.WaterList.{waters-length, waters-few}
-use Rattle.tree.proofs.TreeRefusals.{Tested, tested, call-tested, call-room}
-use Rattle.tree.proofs.Outcomes.{Leaves, unchanged, answers-same, asTree, tree-built, tree-refused, over-waters}
+use Rattle.tree.proofs.TreeRefusals.{Tested, tested}
+use Rattle.tree.proofs.Outcomes.{asTree, tree-built, tree-refused, over-waters}
 use Rattle.tree.proofs.tree.Statement.{statement}
 use Rattle.tree.proofs.tree.Tie as tie
 
--- the frame's tree, and the number that the call refuses with
-abbrev inFrame : tie.Start → Subtrees
-inFrame st = frameTree (st .args .cell) (st .args .solutes .now) (st .args .waters .now) (st .args .starts .now) (st .args .picks .now)
+-- landmarks: from a place back to an earlier one
+abbrev start : tie.After-refusal → tie.Start
+start c = c .before .before .before .before .before .before .before .before .before .before .before
 
-abbrev refused : tie.Start → ℕ
-refused st = treeCallRefusal (st .args .cell) (st .args .solutes .now) (st .args .waters .now) (st .args .starts .now) (st .args .picks .now) (st .args .center-order .now) (st .args .water-order .now) (wholeRecords (st .args .records .now) (st .args .boxes .now))
+abbrev waters : tie.After-tree-of-arg4 → tie.After-put-waters
+waters c = c .before .before .before .before .before .before
 
--- the input passed the tests
-passed :
-    (c : tie.Else1) → let st = c .before .before .before .before .before .before .before .before .before .before .before .before in
-    Tested (st .args .cell) (st .args .solutes .now) (st .args .waters .now) (st .args .starts .now) (st .args .picks .now) (st .args .center-order .now) (st .args .water-order .now)
-passed c =
-    let st = c .before .before .before .before .before .before .before .before .before .before .before .before in
-    tested (st .args .cell) (st .args .solutes .now) (st .args .waters .now) (st .args .starts .now) (st .args .picks .now) (st .args .center-order .now) (st .args .water-order .now) (sym (c .before .refusal .ensures) ∙ c .if1 .left)
+abbrev accepted : tie.After-tree-of-arg4 → tie.Else1
+accepted c = waters c .before .before .before
 
--- what the builder answered is Tree's answer
-answered :
-    (c : tie.After-tree-of) → let st = c .before .before .before .before .before .before .before .before .before .before .before .before .before .before .before .before .before .before .before .before .before .before in
-    let t = inFrame st in
-    let b = c .tree-of .result in
-    (asTree b ≡ treeAnswer (refused st) t)
-    × Leaves (builtNumber b) t (copiesIn (st .args .starts .now)) (finiteWaters (st .args .waters .now))
-    (st .args .center-order .now) (c .tree-of .last .1 .1 .1 .1 .1 .1 .0) (st .args .water-order .now) (c .tree-of .last .1 .1 .1 .1 .1 .1 .1 .0)
-    (st .args .records .now) (c .tree-of .last .1 .1 .1 .1 .1 .1 .1 .1 .0) (st .args .boxes .now) (c .tree-of .last .1 .1 .1 .1 .1 .1 .1 .1 .1 .0)
+abbrev startOf : tie.After-tree-of-arg4 → tie.Start
+startOf c = start (accepted c .before)
+
+abbrev built : tie.After-slice-known8 → tie.After-tree-of
+built c = c .before .before .before .before .before .before .before .before
+
+abbrev builtNodes : tie.After-known-told → tie.After-tree-of
+builtNodes c = built (c .before .before .before)
+
+abbrev builtFull : tie.After-enum-told → tie.After-tree-of
+builtFull c = built (c .before .before)
+
+abbrev input : tie.Start → Input
+input st = given (st .args .cell) (st .args .solutes .now) (st .args .waters .now) (st .args .starts .now) (st .args .picks .now)
+
+abbrev lent : tie.Start → TreeTables
+lent st = treeTables (st .args .center-order .now) (st .args .water-order .now) (st .args .records .now) (st .args .boxes .now)
+
+-- the tests refuse nothing
+none : (c : tie.Else1) → let st = start (c .before) in firstRefusal (testRefusals (input st) (st .args .center-order .now) (st .args .water-order .now)) ≡ 0
+none c = sym (c .before .refusal .ensures) ∙ c .if1 .left
+
+passed : (c : tie.Else1) → let st = start (c .before) in Tested (input st) (st .args .center-order .now) (st .args .water-order .now)
+passed c = let st = start (c .before) in tested (input st) (st .args .center-order .now) (st .args .water-order .now) (none c)
+
+-- the tables that came back
+abbrev back : tie.After-tree-of → TreeTables
+back c = let l = c .tree-of .last .1 .1 .1 .1 .1 .1 in treeTables (l .0) (l .1 .0) (l .1 .1 .0) (l .1 .1 .1 .0)
+
+-- what the builder answered, b, is Tree's answer
+abbrev Told : tie.After-tree-of → Built → Type 0
+Told c b = let st = startOf (c .before) in (asTree b ≡ treeAnswer (input st) (lent st)) × (back c ≡ treeAfter (input st) (lent st))
+
+answered : (c : tie.After-tree-of) → Told c (c .tree-of .result)
 answered c =
-    let st = c .before .before .before .before .before .before .before .before .before .before .before .before .before .before .before .before .before .before .before .before .before .before in
-    let put = c .before .before .before .before .before .before .before .put-waters in
-    let else = c .before .before .before .before .before .before .before .before .before .before in
-    let room = wholeRecords (st .args .records .now) (st .args .boxes .now) in
-    let same-room : treeRoom (st .args .records .now) (st .args .boxes .now) (length (st .args .records .now) / 8) ≡ room = omega arith in
-    let tree : List Float → ℕ → Subtrees = λ l k. treeOn (st .args .cell) (st .args .solutes .now) (st .args .starts .now) (st .args .picks .now) l k in
-    let same = ap₂ tree (put .ensures .1) (put .ensures .0) ∙ over-waters (st .args .cell) (st .args .solutes .now) (st .args .waters .now) (st .args .starts .now) (st .args .picks .now) _ in
-    let got =
-    answers-same
-    (c .tree-of .result)
-    (treeRoom (st .args .records .now) (st .args .boxes .now) (length (st .args .records .now) / 8))
-    (copiesIn (st .args .starts .now))
-    (put .result)
-    (finiteWaters (st .args .waters .now))
-    (tree (put .last .1 .1 .0) (put .result))
-    (inFrame st)
-    (st .args .center-order .now)
-    (c .tree-of .last .1 .1 .1 .1 .1 .1 .0)
-    (st .args .water-order .now)
-    (c .tree-of .last .1 .1 .1 .1 .1 .1 .1 .0)
-    (st .args .records .now)
-    (c .tree-of .last .1 .1 .1 .1 .1 .1 .1 .1 .0)
-    (st .args .boxes .now)
-    (c .tree-of .last .1 .1 .1 .1 .1 .1 .1 .1 .1 .0)
-    same
-    (put .ensures .0)
-    (c .tree-of .ensures) in
-    let none = sym (else .before .refusal .ensures) ∙ else .if1 .left in
-    let thirteen : refused st ≡ treeRefusal room (inFrame st) =
-    call-room (st .args .cell) (st .args .solutes .now) (st .args .waters .now) (st .args .starts .now) (st .args .picks .now) (st .args .center-order .now) (st .args .water-order .now) room none in
-    (tree-built (inFrame st) room (refused st) (c .tree-of .result) thirteen (got .0 ∙ ap (λ (k : ℕ). builtAnswer k (inFrame st)) same-room), got .1)
-
-refusal-requires : tie.Need-refusal-requires
-refusal-requires c κs = search needs
-
-same-length : tie.Need-same-length
-same-length c = search needs
-
-same-length-2 : tie.Need-same-length-2
-same-length-2 c = search needs
+    let st = startOf (c .before) in
+    let put = waters (c .before) .put-waters in
+    let f = input st in
+    let limited = treeRoom (st .args .records .now) (st .args .boxes .now) (length (st .args .records .now) / 8) in
+    let same-room : limited ≡ wholeRecords (lent st) = omega arith in
+    let got = over-waters f (c .tree-of .result) limited (put .result) (put .last .1 .1 .0) _ (lent st) (back c) (put .ensures .0) (put .ensures .1) (c .tree-of .ensures) in
+    tree-built f (lent st) (c .tree-of .result) (back c) (none (accepted (c .before))) (got .0 ∙ ap (λ (k : ℕ). builtAnswer k (frameTree f)) same-room, got .1)
 
 returns : tie.Need-returns
-returns c =
-    let st = c .before .before .before .before .before .before .before .before .before .before .before .before in
-    let r = c .before .refusal .result in
-    let first = call-tested (st .args .cell) (st .args .solutes .now) (st .args .waters .now) (st .args .starts .now) (st .args .picks .now) (st .args .center-order .now) (st .args .water-order .now) (wholeRecords (st .args .records .now) (st .args .boxes .now)) r (c .before .refusal .ensures) (c .if1 .taken) in (
-      tree-refused (inFrame st) r (c .if1 .taken) ∙ ap (λ (k : ℕ). treeAnswer k (inFrame st)) (first .0),
-      unchanged r (inFrame st) (copiesIn (st .args .starts .now)) (finiteWaters (st .args .waters .now)) (st .args .center-order .now) (st .args .water-order .now) (st .args .records .now) (st .args .boxes .now) (c .if1 .taken) (first .1),
-    )
-
-slice-aggregate-put-waters : tie.Need-slice-aggregate-put-waters
-slice-aggregate-put-waters c = search needs
+returns c = let st = start (c .before) in tree-refused (input st) (lent st) (c .before .refusal .result) (c .before .refusal .ensures) (c .if1 .taken)
 
 put-waters-requires : tie.Need-put-waters-requires
 put-waters-requires c κs = omega (arith, passed (c .before .before) .waters-few)
 
-slice-aggregate-tree-of : tie.Need-slice-aggregate-tree-of
-slice-aggregate-tree-of c = search needs
-
 tree-of-requires : tie.Need-tree-of-requires
 tree-of-requires c κs =
-    let st = c .before .before .before .before .before .before .before .before .before .before .before .before .before .before .before .before .before .before .before .before .before in
-    let put = c .before .before .before .before .before .before .put-waters in
-    let ok = passed (c .before .before .before .before .before .before .before .before .before) in
+    let st = startOf c in
+    let put = waters c .put-waters in
+    let ok = passed (accepted c) in
     let size = put .kept .1 .1 .0 in
     let m = put .ensures .0 in
     let three = waters-length (st .args .cell) (st .args .waters .now) in
     let few = waters-few (st .args .cell) (st .args .waters .now) in
     (ok .sound, ((omega (arith, ok .waters-few), omega (arith, ok .waters-few)), (ok .centers-fit, omega (arith, ok .waters-fit))))
 
-enum-known-nodes : tie.Need-enum-known-nodes
-enum-known-nodes c = search needs
-
 enum-told : tie.Need-enum-told
 enum-told c = search needs
 
-same-length-3 : tie.Need-same-length-3
-same-length-3 c = c .before .before .before .before .before .before .before .before .before .before .before .tree-of .kept .1 .1 .1 .1 .1 .1 .0
-
-same-length-4 : tie.Need-same-length-4
-same-length-4 c = c .before .before .before .before .before .before .before .before .before .before .before .tree-of .kept .1 .1 .1 .1 .1 .1 .1 .0
-
-same-length-5 : tie.Need-same-length-5
-same-length-5 c = c .before .before .before .before .before .before .before .before .before .before .before .tree-of .kept .1 .1 .1 .1 .1 .1 .1 .1 .0
-
-same-length-6 : tie.Need-same-length-6
-same-length-6 c = c .before .before .before .before .before .before .before .before .before .before .before .tree-of .kept .1 .1 .1 .1 .1 .1 .1 .1 .1 .0
-
 returns-2 : tie.Need-returns-2
-returns-2 c = rw (c .before .nodes .given .1) at (answered (c .before .before .before .before .before .before .before .before .before .before .before))
-
-same-length-7 : tie.Need-same-length-7
-same-length-7 c = c .before .before .before .before .before .before .before .before .before .before .tree-of .kept .1 .1 .1 .1 .1 .1 .0
-
-same-length-8 : tie.Need-same-length-8
-same-length-8 c = c .before .before .before .before .before .before .before .before .before .before .tree-of .kept .1 .1 .1 .1 .1 .1 .1 .0
-
-same-length-9 : tie.Need-same-length-9
-same-length-9 c = c .before .before .before .before .before .before .before .before .before .before .tree-of .kept .1 .1 .1 .1 .1 .1 .1 .1 .0
-
-same-length-10 : tie.Need-same-length-10
-same-length-10 c = c .before .before .before .before .before .before .before .before .before .before .tree-of .kept .1 .1 .1 .1 .1 .1 .1 .1 .1 .0
+returns-2 c = subst (Told (builtNodes c)) (c .before .nodes .given .1) (answered (builtNodes c))
 
 returns-3 : tie.Need-returns-3
-returns-3 c = rw (c .enum-told .given .1) at (answered (c .before .before .before .before .before .before .before .before .before .before))
+returns-3 c = subst (Told (builtFull c)) (c .enum-told .given .1) (answered (builtFull c))
 
 pub tree-spec : {M : Type 1} → statement M
 tree-spec =
     tie.close
     (tie.spec
-    refusal-requires
-    same-length
-    same-length-2
+    (λ c κs. search needs)
+    (λ c. search needs)
+    (λ c. search needs)
     returns
     (λ c κs. search needs)
-    slice-aggregate-put-waters
+    (λ c. search needs)
     put-waters-requires
-    slice-aggregate-tree-of
+    (λ c. search needs)
     tree-of-requires
-    enum-known-nodes
+    (λ c. search needs)
     enum-told
-    same-length-3
-    same-length-4
-    same-length-5
-    same-length-6
+    (λ c. builtNodes c .tree-of .kept .1 .1 .1 .1 .1 .1 .0)
+    (λ c. builtNodes c .tree-of .kept .1 .1 .1 .1 .1 .1 .1 .0)
+    (λ c. builtNodes c .tree-of .kept .1 .1 .1 .1 .1 .1 .1 .1 .0)
+    (λ c. builtNodes c .tree-of .kept .1 .1 .1 .1 .1 .1 .1 .1 .1 .0)
     returns-2
-    same-length-7
-    same-length-8
-    same-length-9
-    same-length-10
+    (λ c. builtFull c .tree-of .kept .1 .1 .1 .1 .1 .1 .0)
+    (λ c. builtFull c .tree-of .kept .1 .1 .1 .1 .1 .1 .1 .0)
+    (λ c. builtFull c .tree-of .kept .1 .1 .1 .1 .1 .1 .1 .1 .0)
+    (λ c. builtFull c .tree-of .kept .1 .1 .1 .1 .1 .1 .1 .1 .1 .0)
     returns-3)

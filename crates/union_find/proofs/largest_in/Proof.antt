@@ -14,12 +14,6 @@ use Rattle.union_find.proofs.largest_in.Tie as tie
 lent : (xs ys₀ ys : List ℕ) → ys ≡ xs ++ drop (length xs) ys₀ → take (length xs) ys ≡ xs
 lent xs ys₀ ys e = rw e (take-append-seam xs (drop (length xs) ys₀))
 
-copy-in-requires : tie.Need-copy-in-requires
-copy-in-requires c κs = search needs
-
-slice-relend-prefix-greatest-size : tie.Need-slice-relend-prefix-greatest-size
-slice-relend-prefix-greatest-size c = search needs
-
 slice-aggregate-greatest-size : tie.Need-slice-aggregate-greatest-size
 slice-aggregate-greatest-size c =
     let st = c .before .before .before .before .before .before .before .before in
@@ -30,12 +24,6 @@ greatest-size-requires c κs =
     let st = c .before .before .before .before .before .before .before .before .before in
     rw (lent _ _ _ (c .before .before .before .before .copy-in .ensures)) ((st .pre .0 .0, st .pre .0 .1, st .pre .1 .0 .1), st .pre .1 .1)
 
-same-length : tie.Need-same-length
-same-length c = search needs
-
-same-length-2 : tie.Need-same-length-2
-same-length-2 c = search needs
-
 returns : tie.Need-returns
 returns c =
     let b = c .before .before .before .before in
@@ -45,10 +33,10 @@ pub largest-in-spec : {M : Type 1} → statement M
 largest-in-spec =
     tie.close
     (tie.spec
-    copy-in-requires
-    slice-relend-prefix-greatest-size
+    (λ c κs. search needs)
+    (λ c. search needs)
     slice-aggregate-greatest-size
     greatest-size-requires
-    same-length
-    same-length-2
+    (λ c. search needs)
+    (λ c. search needs)
     returns)

@@ -7,9 +7,6 @@ use Rattle.union_find.proofs.Joins.{sound-first, length-first, roots-be
 use Rattle.union_find.proofs.union_roots.Statement.{statement}
 use Rattle.union_find.proofs.union_roots.Tie as tie
 
-find-root-requires : tie.Need-find-root-requires
-find-root-requires c κs = search needs
-
 find-root-requires-2 : tie.Need-find-root-requires-2
 find-root-requires-2 c κs =
     let st = c .before .before .before .before .before .before in
@@ -17,12 +14,6 @@ find-root-requires-2 c κs =
       rw e (sound-first _ _ _ (st .pre .0) (st .pre .1) (st .pre .2)),
       rw (e, length-first _ _ _ (st .pre .0) (st .pre .1) (st .pre .2)) (omega (arith, st .pre .1, st .pre .2)),
     )
-
-cast-parent : tie.Need-cast-parent
-cast-parent c = search needs
-
-mul-parent : tie.Need-mul-parent
-mul-parent c = search needs
 
 slice-write-parent : tie.Need-slice-write-parent
 slice-write-parent c =
@@ -45,9 +36,6 @@ returns c =
     join-apart _ _ _ (st .pre .0) (st .pre .1) (st .pre .2) (f .find-root .ensures .0) (f .find-root .ensures .1) (g .find-root2 .ensures .0)
     (g .find-root2 .ensures .1) (c .if1 .taken)
 
-same-length-2 : tie.Need-same-length-2
-same-length-2 c = search needs
-
 returns-2 : tie.Need-returns-2
 returns-2 c =
     let g = c .before .before .before in
@@ -60,12 +48,12 @@ pub union-roots-spec : {M : Type 1} → statement M
 union-roots-spec =
     tie.close
     (tie.spec
-    find-root-requires
+    (λ c κs. search needs)
     find-root-requires-2
-    cast-parent
-    mul-parent
+    (λ c. search needs)
+    (λ c. search needs)
     slice-write-parent
     same-length
     returns
-    same-length-2
+    (λ c. search needs)
     returns-2)

@@ -22,9 +22,6 @@ three c = words-next (omega arith) (two (c .before .before .before .before)) (c 
 four : (c : tie.After-put-bits2) → let a = c .before .before .before .before .before .before .before .before .before .before .before .before .before .before .before .before .args in Words (a .at) (clustersWords (a .copies) (a .largest) (a .contacted) (a .pair)) (a .out .now) 4 (c .put-bits2 .result) (c .put-bits2 .last .1 .1 .0)
 four c = words-next (omega arith) (three (c .before .before .before .before)) (c .put-bits2 .ensures)
 
-slice-aggregate-put-text : tie.Need-slice-aggregate-put-text
-slice-aggregate-put-text c = search needs
-
 put-text-requires : tie.Need-put-text-requires
 unfolding clustersLine
 put-text-requires c κs =
@@ -43,9 +40,6 @@ put-bits-requires-2 c κs = next-fits (omega arith) (three (c .before .before .b
 put-bits-requires-3 : tie.Need-put-bits-requires-3
 put-bits-requires-3 c κs = last-fits refl (four (c .before .before .before))
 
-same-length : tie.Need-same-length
-same-length c = search needs
-
 returns : tie.Need-returns
 unfolding clustersLine
 returns c = words-last refl (four (c .before .before .before .before .before .before)) (c .before .before .put-bits3 .ensures)
@@ -54,11 +48,11 @@ pub put-clusters-spec : {M : Type 1} → statement M
 put-clusters-spec =
     tie.close
     (tie.spec
-    slice-aggregate-put-text
+    (λ c. search needs)
     put-text-requires
     put-number-requires
     put-bits-requires
     put-bits-requires-2
     put-bits-requires-3
-    same-length
+    (λ c. search needs)
     returns)

@@ -18,18 +18,12 @@ one : (c : tie.After-put-text) → let a = c .before .before .before .before .ar
 unfolding dispersionLine
 one c = words-next (omega arith) (words-first (words (c .before .before .before .before .args .dispersion)) (c .before .before .before .before .args .out .now) (c .before .before .before .before .pre)) (c .put-text .ensures)
 
-slice-aggregate-put-text : tie.Need-slice-aggregate-put-text
-slice-aggregate-put-text c = search needs
-
 put-text-requires : tie.Need-put-text-requires
 unfolding dispersionLine
 put-text-requires c κs = next-fits (omega arith) (words-first (words (c .before .before .before .args .dispersion)) (c .before .before .before .args .out .now) (c .before .before .before .pre))
 
 put-bits-requires : tie.Need-put-bits-requires
 put-bits-requires c κs = last-fits refl (one (c .before .before .before))
-
-same-length : tie.Need-same-length
-same-length c = search needs
 
 returns : tie.Need-returns
 unfolding dispersionLine
@@ -38,4 +32,4 @@ returns c = words-last refl (one (c .before .before .before .before .before .bef
 pub put-dispersion-spec : {M : Type 1} → statement M
 put-dispersion-spec =
     tie.close
-    (tie.spec slice-aggregate-put-text put-text-requires put-bits-requires same-length returns)
+    (tie.spec (λ c. search needs) put-text-requires put-bits-requires (λ c. search needs) returns)

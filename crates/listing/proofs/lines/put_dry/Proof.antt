@@ -17,18 +17,12 @@ one : (c : tie.After-put-text) → let a = c .before .before .before .before .ar
 unfolding dryLine
 one c = words-next (omega arith) (words-first (words (c .before .before .before .before .args .dry)) (c .before .before .before .before .args .out .now) (c .before .before .before .before .pre)) (c .put-text .ensures)
 
-slice-aggregate-put-text : tie.Need-slice-aggregate-put-text
-slice-aggregate-put-text c = search needs
-
 put-text-requires : tie.Need-put-text-requires
 unfolding dryLine
 put-text-requires c κs = next-fits (omega arith) (words-first (words (c .before .before .before .args .dry)) (c .before .before .before .args .out .now) (c .before .before .before .pre))
 
 put-number-requires : tie.Need-put-number-requires
 put-number-requires c κs = last-fits refl (one (c .before .before .before))
-
-same-length : tie.Need-same-length
-same-length c = search needs
 
 returns : tie.Need-returns
 unfolding dryLine
@@ -37,4 +31,4 @@ returns c = words-last refl (one (c .before .before .before .before .before .bef
 pub put-dry-spec : {M : Type 1} → statement M
 put-dry-spec =
     tie.close
-    (tie.spec slice-aggregate-put-text put-text-requires put-number-requires same-length returns)
+    (tie.spec (λ c. search needs) put-text-requires put-number-requires (λ c. search needs) returns)

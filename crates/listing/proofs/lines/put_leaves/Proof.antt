@@ -4,7 +4,7 @@ use mathlib.Core.Path.{_≡_, refl}
 use Prim.Native.Nat.{_-_, _*_, _≤_}
 use native.Mathlib.Omega.{arith}
 use Rattle.listing.specs.Listing.{leafLine, leafLines}
-use Rattle.cell.proofs.Tables.{Filling, filling-first, filling-append, filling-last}
+use Rattle.base.proofs.Filling.{Filling, filling-first, filling-append, filling-last}
 use Rattle.listing.proofs.Lengths.{leaves-none, leaves-more, leaves-length}
 use Rattle.listing.proofs.lines.put_leaves.Statement.{statement}
 use Rattle.listing.proofs.lines.put_leaves.Tie as tie

@@ -3,7 +3,7 @@ use mathlib.Core.List.{List, _++_}
 use Prim.Native.Nat.{ℕ}
 use native.Mathlib.Omega.{arith}
 use Rattle.listing.specs.Listing.{clustersLine, dispersionLine, nodesLine, leafLines, dryLine, listingText}
-use Rattle.cell.proofs.Tables.{Filling, filling-first}
+use Rattle.base.proofs.Filling.{Filling, filling-first}
 use Rattle.listing.proofs.Pieces.{piece-fits, piece, last-piece}
 use borrow.Author.Needs.{needs}
 use Rattle.listing.proofs.lines.put_lines.Statement.{statement}
@@ -60,9 +60,6 @@ put-leaves-requires c κs =
 put-dry-requires : tie.Need-put-dry-requires
 put-dry-requires c κs = four (c .before .before .before) .room
 
-same-length : tie.Need-same-length
-same-length c = search needs
-
 returns : tie.Need-returns
 returns c = last-piece (four (c .before .before .before .before .before .before)) (c .before .before .put-dry .ensures)
 
@@ -75,5 +72,5 @@ put-lines-spec =
     put-nodes-requires
     put-leaves-requires
     put-dry-requires
-    same-length
+    (λ c. search needs)
     returns)

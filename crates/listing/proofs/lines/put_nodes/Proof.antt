@@ -25,9 +25,6 @@ two c = words-next (omega arith) (one (c .before .before .before .before)) (c .p
 three : (c : tie.After-put-text2) → let a = c .before .before .before .before .before .before .before .before .before .before .before .before .before .args in Words (a .at) (words (a .nodes) (a .depth)) (a .out .now) 3 (c .put-text2 .result) (c .put-text2 .last .1 .0)
 three c = words-next (omega arith) (two (c .before .before .before .before .before)) (c .put-text2 .ensures)
 
-slice-aggregate-put-text : tie.Need-slice-aggregate-put-text
-slice-aggregate-put-text c = search needs
-
 put-text-requires : tie.Need-put-text-requires
 unfolding nodesLine
 put-text-requires c κs =
@@ -37,17 +34,11 @@ put-text-requires c κs =
 put-number-requires : tie.Need-put-number-requires
 put-number-requires c κs = next-fits (omega arith) (one (c .before .before .before))
 
-slice-aggregate-put-text-2 : tie.Need-slice-aggregate-put-text-2
-slice-aggregate-put-text-2 c = search needs
-
 put-text-requires-2 : tie.Need-put-text-requires-2
 put-text-requires-2 c κs = next-fits (omega arith) (two (c .before .before .before .before))
 
 put-number-requires-2 : tie.Need-put-number-requires-2
 put-number-requires-2 c κs = last-fits refl (three (c .before .before .before))
-
-same-length : tie.Need-same-length
-same-length c = search needs
 
 returns : tie.Need-returns
 unfolding nodesLine
@@ -57,11 +48,11 @@ pub put-nodes-spec : {M : Type 1} → statement M
 put-nodes-spec =
     tie.close
     (tie.spec
-    slice-aggregate-put-text
+    (λ c. search needs)
     put-text-requires
     put-number-requires
-    slice-aggregate-put-text-2
+    (λ c. search needs)
     put-text-requires-2
     put-number-requires-2
-    same-length
+    (λ c. search needs)
     returns)

@@ -7,9 +7,6 @@ use Rattle.floats.proofs.Tests.{fails}
 use Rattle.numbers.proofs.class.from_bits32.Statement.{statement}
 use Rattle.numbers.proofs.class.from_bits32.Tie as tie
 
-is-nan-bits32-requires : tie.Need-is-nan-bits32-requires
-is-nan-bits32-requires c κs = search needs
-
 no-number : div binary32 (ofBits binary32 0) (ofBits binary32 0) ≡ nan
 unfolding ofBits div
 no-number = refl
@@ -20,8 +17,5 @@ returns c = no-number ∙ sym (nan-tested binary32 (c .before .before .args .b) 
 float-from-bits-result : tie.Need-float-from-bits-result
 float-from-bits-result c = fails (sym (c .before .is-nan-bits32 .ensures) ∙ c .if1 .left)
 
-returns-2 : tie.Need-returns-2
-returns-2 c = search needs
-
 pub from-bits32-spec : {M : Type 1} → statement M
-from-bits32-spec = tie.close (tie.spec is-nan-bits32-requires returns float-from-bits-result returns-2)
+from-bits32-spec = tie.close (tie.spec (λ c κs. search needs) returns float-from-bits-result (λ c. search needs))

@@ -7,9 +7,6 @@ use Rattle.floats.proofs.Tests.{fails}
 use Rattle.numbers.proofs.class.from_bits64.Statement.{statement}
 use Rattle.numbers.proofs.class.from_bits64.Tie as tie
 
-is-nan-bits64-requires : tie.Need-is-nan-bits64-requires
-is-nan-bits64-requires c κs = search needs
-
 no-number : div binary64 (ofBits binary64 0) (ofBits binary64 0) ≡ nan
 unfolding ofBits div
 no-number = refl
@@ -20,8 +17,5 @@ returns c = no-number ∙ sym (nan-tested binary64 (c .before .before .args .b) 
 float-from-bits-result : tie.Need-float-from-bits-result
 float-from-bits-result c = fails (sym (c .before .is-nan-bits64 .ensures) ∙ c .if1 .left)
 
-returns-2 : tie.Need-returns-2
-returns-2 c = search needs
-
 pub from-bits64-spec : {M : Type 1} → statement M
-from-bits64-spec = tie.close (tie.spec is-nan-bits64-requires returns float-from-bits-result returns-2)
+from-bits64-spec = tie.close (tie.spec (λ c κs. search needs) returns float-from-bits-result (λ c. search needs))

@@ -16,8 +16,5 @@ returns c = quiet ∙ ap (toBits binary32) (sym (is-nan (c .before .args .x) (c 
 float-to-bits-result : tie.Need-float-to-bits-result
 float-to-bits-result c = no-nan (c .before .args .x) (c .if1 .left)
 
-returns-2 : tie.Need-returns-2
-returns-2 c = search needs
-
 pub to-bits32-spec : {M : Type 1} → statement M
-to-bits32-spec = tie.close (tie.spec returns float-to-bits-result returns-2)
+to-bits32-spec = tie.close (tie.spec returns float-to-bits-result (λ c. search needs))

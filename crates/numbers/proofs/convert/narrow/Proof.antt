@@ -5,19 +5,9 @@ use borrow.Author.Needs.{needs}
 use lib.Dec.{T}
 use lib.Ieee.{binary32, binary64, fits, ofBits, toBits}
 use Rattle.floats.specs.Convert.{narrowOf}
-use Rattle.floats.proofs.Through.{narrow-fits}
-use Rattle.floats.proofs.Through.{by-bits}
+use Rattle.floats.proofs.Through.{narrow-fits, by-bits}
 use Rattle.numbers.proofs.convert.narrow.Statement.{statement}
 use Rattle.numbers.proofs.convert.narrow.Tie as tie
-
-to-bits64-requires : tie.Need-to-bits64-requires
-to-bits64-requires c κs = search needs
-
-narrow-bits-requires : tie.Need-narrow-bits-requires
-narrow-bits-requires c κs = search needs
-
-from-bits32-requires : tie.Need-from-bits32-requires
-from-bits32-requires c κs = search needs
 
 held : (c : tie.Start) → T (fits binary64 (c .args .x))
 held c = subst T (sym (c .good .0 .1)) tt
@@ -29,4 +19,4 @@ returns c =
     ∙ by-bits binary64 binary32 (narrowOf binary32) (s .args .x) (c .before .narrow-bits .result) (held s) (narrow-fits binary32 (s .args .x)) (c .before .narrow-bits .ensures ∙ ap (λ (n : ℕ). toBits binary32 (narrowOf binary32 (ofBits binary64 n))) (c .before .before .to-bits64 .ensures))
 
 pub narrow-spec : {M : Type 1} → statement M
-narrow-spec = tie.close (tie.spec to-bits64-requires narrow-bits-requires from-bits32-requires returns)
+narrow-spec = tie.close (tie.spec (λ c κs. search needs) (λ c κs. search needs) (λ c κs. search needs) returns)

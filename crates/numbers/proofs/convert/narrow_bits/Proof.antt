@@ -16,9 +16,6 @@ size-is b = and-mask b 63
 returns : tie.Need-returns
 returns c = narrow-nan (c .before .args .b) (c .if1 .taken)
 
-narrow-size-requires : tie.Need-narrow-size-requires
-narrow-size-requires c κs = search needs
-
 returns-2 : tie.Need-returns-2
 returns-2 c =
     let b = c .before .before .before .args .b in
@@ -26,9 +23,6 @@ returns-2 c =
     let s : b / 9223372036854775808 ≡ 0 = c .if2 .taken in
     let same : bitAnd b 9223372036854775807 ≡ b = omega arith in
     c .before .narrow-size .ensures .0 ∙ ap (λ (k : ℕ). toBits binary32 (narrowOf binary32 (ofBits binary64 k))) same
-
-add-result : tie.Need-add-result
-add-result c = search needs
 
 returns-3 : tie.Need-returns-3
 returns-3 c =
@@ -40,4 +34,4 @@ returns-3 c =
     ∙ narrow-minus b (bitAnd b 9223372036854775807) g (size-is b) (c .before .before .if1 .left)
 
 pub narrow-bits-spec : {M : Type 1} → statement M
-narrow-bits-spec = tie.close (tie.spec returns narrow-size-requires returns-2 add-result returns-3)
+narrow-bits-spec = tie.close (tie.spec returns (λ c κs. search needs) returns-2 (λ c. search needs) returns-3)

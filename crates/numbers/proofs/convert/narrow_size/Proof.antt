@@ -36,9 +36,6 @@ returns-2 c =
     let e : (n / 4503599627370496 - 897) * 8388608 % 18446744073709551616 ≡ (n / 4503599627370496 - 897) * 8388608 = omega arith in
     (ap (λ (x : ℕ). x + r .result) e ∙ narrow-normal n (s .pre) (r .result) (r .ensures) lo hi, omega (arith, kept-le c))
 
-sub-shift-nearest : tie.Need-sub-shift-nearest
-sub-shift-nearest c = search needs
-
 shift-nearest-requires-2 : tie.Need-shift-nearest-requires-2
 shift-nearest-requires-2 c κs = omega (arith, lead-is binary64 (c .before .before .before .args .n))
 
@@ -68,7 +65,7 @@ narrow-size-spec =
     add-result
     cast-result
     returns-2
-    sub-shift-nearest
+    (λ c. search needs)
     shift-nearest-requires-2
     cast-result-2
     returns-3

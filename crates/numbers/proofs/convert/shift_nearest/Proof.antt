@@ -13,12 +13,6 @@ use Rattle.numbers.proofs.convert.shift_nearest.Tie as tie
 kept-lt : (c : tie.Start) → c .args .q / 2 ^ c .args .k < 2 ^ 53
 kept-lt c = lt-of-le-of-lt (div-le-self (c .args .q) (2 ^ c .args .k)) (c .pre .0)
 
-shl-unit : tie.Need-shl-unit
-shl-unit c = search needs
-
-shr-kept : tie.Need-shr-kept
-shr-kept c = search needs
-
 sub-twice : tie.Need-sub-twice
 sub-twice c = subst (λ (x : ℕ). 1 ≤ x) (sym (unit-is (c .args .k) (c .pre .1))) (pow-pos (c .args .k))
 
@@ -41,4 +35,4 @@ returns-3 : tie.Need-returns-3
 returns-3 c = let s = c .before .before in shift-tie (s .args .q) (s .args .k) (s .pre .1) (c .before .if1 .left) (c .if2 .left)
 
 pub shift-nearest-spec : {M : Type 1} → statement M
-shift-nearest-spec = tie.close (tie.spec shl-unit shr-kept sub-twice mul-twice returns add-result returns-2 add-result-2 returns-3)
+shift-nearest-spec = tie.close (tie.spec (λ c. search needs) (λ c. search needs) sub-twice mul-twice returns add-result returns-2 add-result-2 returns-3)

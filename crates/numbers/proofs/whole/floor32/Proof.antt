@@ -10,17 +10,5 @@ returns : tie.Need-returns
 unfolding ofBits neg
 returns c = unit-zero (c .before .before .args .x) (holds (c .before .if1 .taken)) (holds (c .if2 .taken))
 
-floor-any32-requires : tie.Need-floor-any32-requires
-floor-any32-requires c κs = search needs
-
-returns-2 : tie.Need-returns-2
-returns-2 c = search needs
-
-floor-any32-requires-2 : tie.Need-floor-any32-requires-2
-floor-any32-requires-2 c κs = search needs
-
-returns-3 : tie.Need-returns-3
-returns-3 c = search needs
-
 pub floor32-spec : {M : Type 1} → statement M
-floor32-spec = tie.close (tie.spec returns floor-any32-requires returns-2 floor-any32-requires-2 returns-3)
+floor32-spec = tie.close (tie.spec returns (λ c κs. search needs) (λ c. search needs) (λ c κs. search needs) (λ c. search needs))

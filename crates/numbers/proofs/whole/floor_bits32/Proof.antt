@@ -6,17 +6,8 @@ use Rattle.floats.specs.Whole.{floorOf}
 use Rattle.numbers.proofs.whole.floor_bits32.Statement.{statement}
 use Rattle.numbers.proofs.whole.floor_bits32.Tie as tie
 
-from-bits32-requires : tie.Need-from-bits32-requires
-from-bits32-requires c κs = search needs
-
-floor32-requires : tie.Need-floor32-requires
-floor32-requires c κs = search needs
-
-to-bits32-requires : tie.Need-to-bits32-requires
-to-bits32-requires c κs = search needs
-
 returns : tie.Need-returns
 returns c = c .to-bits32 .ensures ∙ ap (toBits binary32) (c .before .floor32 .ensures ∙ ap (floorOf binary32) (c .before .before .from-bits32 .ensures))
 
 pub floor-bits32-spec : {M : Type 1} → statement M
-floor-bits32-spec = tie.close (tie.spec from-bits32-requires floor32-requires to-bits32-requires returns)
+floor-bits32-spec = tie.close (tie.spec (λ c κs. search needs) (λ c κs. search needs) (λ c κs. search needs) returns)

@@ -1,7 +1,7 @@
 -- `numbers::whole::near_zero32` meets its contract: the code is the definition. Assumes nothing.
 use mathlib.Core.Path.{refl}
 use lib.Ieee.{ofBits, neg}
-use Rattle.floats.specs.Whole.{nearZero}
+use Rattle.floats.specs.Inner.{nearZero}
 use Rattle.numbers.proofs.whole.near_zero32.Statement.{statement}
 use Rattle.numbers.proofs.whole.near_zero32.Tie as tie
 

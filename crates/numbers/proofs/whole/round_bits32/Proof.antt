@@ -6,17 +6,8 @@ use Rattle.floats.specs.Whole.{roundOf}
 use Rattle.numbers.proofs.whole.round_bits32.Statement.{statement}
 use Rattle.numbers.proofs.whole.round_bits32.Tie as tie
 
-from-bits32-requires : tie.Need-from-bits32-requires
-from-bits32-requires c κs = search needs
-
-round32-requires : tie.Need-round32-requires
-round32-requires c κs = search needs
-
-to-bits32-requires : tie.Need-to-bits32-requires
-to-bits32-requires c κs = search needs
-
 returns : tie.Need-returns
 returns c = c .to-bits32 .ensures ∙ ap (toBits binary32) (c .before .round32 .ensures ∙ ap (roundOf binary32) (c .before .before .from-bits32 .ensures))
 
 pub round-bits32-spec : {M : Type 1} → statement M
-round-bits32-spec = tie.close (tie.spec from-bits32-requires round32-requires to-bits32-requires returns)
+round-bits32-spec = tie.close (tie.spec (λ c κs. search needs) (λ c κs. search needs) (λ c κs. search needs) returns)

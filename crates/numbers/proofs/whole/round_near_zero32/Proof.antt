@@ -1,17 +1,11 @@
 -- `numbers::whole::round_near_zero32` meets its contract: the two tests give the result (`units-round`). Assumes nothing.
 use borrow.Author.Needs.{needs}
 use lib.Ieee.{neg, lt, ofBits}
-use Rattle.floats.specs.Whole.{nearZero}
+use Rattle.floats.specs.Inner.{nearZero}
 use Rattle.floats.proofs.Tests.{holds, both}
 use Rattle.floats.proofs.RoundArms.{threeHalves32, units-round}
 use Rattle.numbers.proofs.whole.round_near_zero32.Statement.{statement}
 use Rattle.numbers.proofs.whole.round_near_zero32.Tie as tie
-
-unit-requires : tie.Need-unit-requires
-unit-requires c κs = search needs
-
-unit-requires-2 : tie.Need-unit-requires-2
-unit-requires-2 c κs = search needs
 
 returns : tie.Need-returns
 unfolding nearZero ofBits neg
@@ -21,4 +15,4 @@ returns c =
     rw (c .before .unit .ensures, c .unit2 .ensures) (units-round x (holds (t .0)) (holds (t .1)))
 
 pub round-near-zero32-spec : {M : Type 1} → statement M
-round-near-zero32-spec = tie.close (tie.spec unit-requires unit-requires-2 returns)
+round-near-zero32-spec = tie.close (tie.spec (λ c κs. search needs) (λ c κs. search needs) returns)

@@ -13,6 +13,8 @@ use mathlib.Core.List.{List}
 use Prim.Native.Nat.{ℕ, _+_, _-_, _*_, _≤_, _<_, max}
 use lib.ListN.{length, getD}
 use lib.Ieee.{Float}
+use Rattle.division.specs.Split.{maxDepth}
+use Rattle.base.specs.Limits.{maxAtoms}
 use Rattle.bounds.specs.declared.OctreeBounds.{OctreeBounds}
 use Rattle.octree.specs.Tree.{rooted, subtree}
 use Rattle.octree.specs.Inner.{Ready, Planted}
@@ -24,14 +26,14 @@ use Rattle.octree.proofs.build.build.Reads as build
 use Rattle.octree.proofs.build.build.Kinds as build-kinds
 use Rattle.octree.proofs.build.+build.Lts-build as build-lts
 use Rattle.bounds.proofs.OctreeBounds.child.Reads as child-reads
-use Rattle.octree.proofs.build.larger.Reads as larger-reads
+use Rattle.base.proofs.max.Reads as max-reads
 use Rattle.division.proofs.divide.Reads as divide-reads
 use Rattle.nodes.proofs.put_node.Reads as put-node-reads
 use Rattle.octree.proofs.build.+build.{statement}
 use Rattle.octree.proofs.build.+build.Tie.{close}
 
 abbrev μ-build : Measures 8 build-kinds.ps ℕ
-μ-build κs a = 14 - a .1 .0
+μ-build κs a = maxDepth - a .1 .0
 
 abbrev build-at : ℕ → In 8 build-kinds.ps
 build-at t = and 8 build-kinds.ps (is 8 build-kinds.ps μ-build t) build.Pre
@@ -45,7 +47,7 @@ siteOf b depth C W cs₀ ws₀ fc fw rec₀ box₀ at room turns =
     record {
       C = C;
       W = W;
-      go = subtree C W (14 - (depth + 1));
+      go = subtree C W (maxDepth - (depth + 1));
       b = b;
       at = at;
       depth = depth;
@@ -77,8 +79,8 @@ calls t = (
   child-reads.Learnt,
   build-below t,
   build.Post,
-  larger-reads.Asked,
-  larger-reads.Learnt,
+  max-reads.Asked,
+  max-reads.Learnt,
   put-node-reads.Asked,
   put-node-reads.Learnt,
 )
@@ -88,24 +90,40 @@ module _ (t : ℕ) where
   abbrev Entered : Type 0
   Entered = build-lts.After-slice-known10 (calls t) (build-at t) build.Post Inv μ-loop
 
+  -- landmarks: from a place back to an earlier one
+  abbrev given : build-lts.After-slice-known6 (calls t) (build-at t) build.Post Inv μ-loop → build-lts.Start (calls t) (build-at t) build.Post Inv μ-loop
+  given c = c .before .before .before .before .before .before .before .before
+
+  abbrev roomy : build-lts.After-divide-arg4 (calls t) (build-at t) build.Post Inv μ-loop → build-lts.Else1 (calls t) (build-at t) build.Post Inv μ-loop
+  roomy c = c .before .before .before .before .before .before
+
+  abbrev divided-c : build-lts.After-worder (calls t) (build-at t) build.Post Inv μ-loop → build-lts.After-corder (calls t) (build-at t) build.Post Inv μ-loop
+  divided-c c = c .before .before
+
+  abbrev divided-w : Entered → build-lts.After-worder (calls t) (build-at t) build.Post Inv μ-loop
+  divided-w c = c .before .before .before .before .before
+
+  abbrev divided : Entered → build-lts.After-divide (calls t) (build-at t) build.Post Inv μ-loop
+  divided c = divided-c (divided-w c) .before
+
   abbrev start : Entered → build-lts.Start (calls t) (build-at t) build.Post Inv μ-loop
-  start c = c .before .before .before .before .before .before .before .before .before .before .before .before .before .before .before .before .before .before .before .before .before .before .before .before
+  start c = given (roomy (divided c .before) .before)
 
   -- the order lists, counts and scratch lists as `divide` left them
   abbrev turns : Entered → ℕ
-  turns c = c .before .before .before .before .before .before .before .before .divide .result
+  turns c = divided c .divide .result
 
   abbrev cs₁ : Entered → List ℕ
-  cs₁ c = c .before .before .before .before .before .before .before .before .divide .last .1 .1 .1 .1 .0
+  cs₁ c = divided c .divide .last .1 .1 .1 .1 .0
 
   abbrev ws₁ : Entered → List ℕ
-  ws₁ c = c .before .before .before .before .before .before .before .before .divide .last .1 .1 .1 .1 .1 .0
+  ws₁ c = divided c .divide .last .1 .1 .1 .1 .1 .0
 
   abbrev ccounts : Entered → List ℕ
-  ccounts c = c .before .before .before .before .before .before .before .before .divide .last .1 .1 .1 .1 .1 .1 .0
+  ccounts c = divided c .divide .last .1 .1 .1 .1 .1 .1 .0
 
   abbrev wcounts : Entered → List ℕ
-  wcounts c = c .before .before .before .before .before .before .before .before .divide .last .1 .1 .1 .1 .1 .1 .1 .0
+  wcounts c = divided c .divide .last .1 .1 .1 .1 .1 .1 .1 .0
 
   abbrev From : Entered → Type 0
   From c = let g = start c .args in Origin (g .centers .now) (g .waters .now) (g .b .center) (turns c) (cs₁ c) (ws₁ c) (ccounts c) (wcounts c)
@@ -113,7 +131,7 @@ module _ (t : ℕ) where
   -- they come from the node's own
   abbrev own : (c : Entered) → From c
   own c =
-      let e = c .before .before .before .before .before .before .before .before .divide .ensures in
+      let e = divided c .divide .ensures in
       record { cs₀ = start c .args .corder .now; ws₀ = start c .args .worder .now; was-c = e .1 .1 .1 .0; was-w = e .1 .1 .1 .1 }
 
   abbrev site : (c : Entered) → From c → Site
@@ -127,23 +145,23 @@ module _ (t : ℕ) where
 
   -- as many centers, waters and scratch places as the node was given
   long-c : (c : Entered) → length (cs₁ c) ≡ length (start c .args .corder .now)
-  long-c c = c .before .before .before .before .before .before .before .corder .given
+  long-c c = divided-c (divided-w c) .corder .given
 
   long-w : (c : Entered) → length (ws₁ c) ≡ length (start c .args .worder .now)
-  long-w c = c .before .before .before .before .before .worder .given
+  long-w c = divided-w c .worder .given
 
-  long-s : (c : Entered) → length (c .before .before .before .before .before .before .before .before .divide .last .1 .1 .1 .1 .1 .1 .1 .1 .0) ≡ length (start c .args .scratch .now)
+  long-s : (c : Entered) → length (divided c .divide .last .1 .1 .1 .1 .1 .1 .1 .1 .0) ≡ length (start c .args .scratch .now)
   long-s c = c .before .before .before .scratch .given
 
-  long-k : (c : Entered) → length (c .before .before .before .before .before .before .before .before .divide .last .1 .1 .1 .1 .1 .1 .1 .1 .1 .0) ≡ length (start c .args .codes .now)
+  long-k : (c : Entered) → length (divided c .divide .last .1 .1 .1 .1 .1 .1 .1 .1 .1 .0) ≡ length (start c .args .codes .now)
   long-k c = c .before .codes .given
 
   -- the whole subtree is the node above its children
   subtree-is : (c : Entered) → let S = site c (own c) in
-      subtree (S .C) (S .W) (14 - S .depth) (S .at) (S .fc) (S .fw) (S .b) (S .cs₀) (S .ws₀) ≡ rooted (S .depth) (S .at) (S .fc) (S .fw) (S .b) (S .cs₀) (S .ws₀) (wholeOf S)
+      subtree (S .C) (S .W) (maxDepth - S .depth) (S .at) (S .fc) (S .fw) (S .b) (S .cs₀) (S .ws₀) ≡ rooted (S .depth) (S .at) (S .fc) (S .fw) (S .b) (S .cs₀) (S .ws₀) (wholeOf S)
   subtree-is c =
       let S = site c (own c) in
-      subtree-by (S .C) (S .W) (S .at) (S .fc) (S .fw) (S .b) (S .cs₀) (S .ws₀) (S .depth) (turns c) (ready c .depth-ok) (c .before .before .before .before .before .before .before .before .divide .ensures .0)
+      subtree-by (S .C) (S .W) (S .at) (S .fc) (S .fw) (S .b) (S .cs₀) (S .ws₀) (S .depth) (turns c) (ready c .depth-ok) (divided c .divide .ensures .0)
 
   -- ---- a turn of the loop
   abbrev Turned : Type 0
@@ -158,7 +176,7 @@ module _ (t : ℕ) where
   grows c = c .loop .inv .0
 
   sizes : (c : Turned) → let e = c .before in let g = start e .args in
-      Sizes (turns e) (turn c) (cs₁ e) (ws₁ e) (g .records .now) (g .boxes .now) (e .before .before .before .before .before .before .before .before .divide .last .1 .1 .1 .1 .1 .1 .1 .1 .0) (c .loop .scratch) (e .before .before .before .before .before .before .before .before .divide .last .1 .1 .1 .1 .1 .1 .1 .1 .1 .0) (c .loop .codes)
+      Sizes (turns e) (turn c) (cs₁ e) (ws₁ e) (g .records .now) (g .boxes .now) (divided e .divide .last .1 .1 .1 .1 .1 .1 .1 .1 .0) (c .loop .scratch) (divided e .divide .last .1 .1 .1 .1 .1 .1 .1 .1 .1 .0) (c .loop .codes)
   sizes c = c .loop .inv .1
 
   same-c : (c : Turned) → length (c .loop .corder) ≡ length (start (c .before) .args .corder .now)
@@ -219,58 +237,93 @@ module _ (t : ℕ) where
   abbrev Returned : Type 0
   Returned = build-lts.After-slice-known16 (calls t) (build-at t) build.Post Inv μ-loop
 
+  -- landmarks: how the octant was chosen, the child's box, and what the child gave back
+  abbrev octant : build-lts.After-child (calls t) (build-at t) build.Post Inv μ-loop → Going
+  octant c = c .before .before
+
+  abbrev boxed : build-lts.After-build-arg6 (calls t) (build-at t) build.Post Inv μ-loop → build-lts.After-child (calls t) (build-at t) build.Post Inv μ-loop
+  boxed c = c .before .before .before .before .before .before
+
+  abbrev built-c : build-lts.After-worder2 (calls t) (build-at t) build.Post Inv μ-loop → build-lts.After-corder2 (calls t) (build-at t) build.Post Inv μ-loop
+  built-c c = c .before .before
+
+  abbrev built-w : build-lts.After-records (calls t) (build-at t) build.Post Inv μ-loop → build-lts.After-worder2 (calls t) (build-at t) build.Post Inv μ-loop
+  built-w c = c .before .before
+
+  abbrev built-r : build-lts.After-boxes (calls t) (build-at t) build.Post Inv μ-loop → build-lts.After-records (calls t) (build-at t) build.Post Inv μ-loop
+  built-r c = c .before .before
+
+  abbrev built-b : Returned → build-lts.After-boxes (calls t) (build-at t) build.Post Inv μ-loop
+  built-b c = c .before .before .before .before .before
+
+  abbrev built : Returned → build-lts.After-build (calls t) (build-at t) build.Post Inv μ-loop
+  built c = built-c (built-w (built-r (built-b c))) .before
+
   abbrev going : Returned → Going
-  going c = c .before .before .before .before .before .before .before .before .before .before .before .before .before .before .before .before .before .before .before .before .before
+  going c = octant (boxed (built c .before))
+
+  abbrev back : build-lts.After-known-told (calls t) (build-at t) build.Post Inv μ-loop → Returned
+  back c = c .before .before .before
+
+  -- landmarks after the loop
+  abbrev done : build-lts.After-put-node (calls t) (build-at t) build.Post Inv μ-loop → build-lts.After-loop (calls t) (build-at t) build.Post Inv μ-loop
+  done c = c .before .before .before
+
+  abbrev put : build-lts.After-slice-known18 (calls t) (build-at t) build.Post Inv μ-loop → build-lts.After-put-node (calls t) (build-at t) build.Post Inv μ-loop
+  put c = c .before .before .before .before
+
+  abbrev last : build-lts.After-slice-known18 (calls t) (build-at t) build.Post Inv μ-loop → Turned
+  last c = done (put c) .before
 
   some : (c : Returned) → nc (going c) + nw (going c) ≡ 0 → ⊥
-  some c = c .before .before .before .before .before .before .before .before .before .before .before .before .before .before .before .before .before .before .before .before .if2 .left
+  some c = boxed (built c .before) .before .if2 .left
 
   back-c : (c : Returned) → let u = going c .before in
-      length (stretchPut (u .loop .ca) (nc (going c)) (u .loop .corder) (c .before .before .before .before .before .before .before .before .before .before .before .before .build .last .1 .1 .1 .1 .0)) ≡ length (u .loop .corder)
-  back-c c = c .before .before .before .before .before .before .before .before .before .before .before .corder2 .given .1
+      length (stretchPut (u .loop .ca) (nc (going c)) (u .loop .corder) (built c .build .last .1 .1 .1 .1 .0)) ≡ length (u .loop .corder)
+  back-c c = built-c (built-w (built-r (built-b c))) .corder2 .given .1
 
   back-w : (c : Returned) → let u = going c .before in
-      length (stretchPut (u .loop .wa) (nw (going c)) (u .loop .worder) (c .before .before .before .before .before .before .before .before .before .before .before .before .build .last .1 .1 .1 .1 .1 .0)) ≡ length (u .loop .worder)
-  back-w c = c .before .before .before .before .before .before .before .before .before .worder2 .given .1
+      length (stretchPut (u .loop .wa) (nw (going c)) (u .loop .worder) (built c .build .last .1 .1 .1 .1 .1 .0)) ≡ length (u .loop .worder)
+  back-w c = built-w (built-r (built-b c)) .worder2 .given .1
 
-  back-r : (c : Returned) → length (c .before .before .before .before .before .before .before .before .before .before .before .before .build .last .1 .1 .1 .1 .1 .1 .1 .1 .0) ≡ length (start (going c .before .before) .args .records .now)
-  back-r c = c .before .before .before .before .before .before .before .records .given ∙ sizes (going c .before) .same-r
+  back-r : (c : Returned) → length (built c .build .last .1 .1 .1 .1 .1 .1 .1 .1 .0) ≡ length (start (going c .before .before) .args .records .now)
+  back-r c = built-r (built-b c) .records .given ∙ sizes (going c .before) .same-r
 
-  back-b : (c : Returned) → length (c .before .before .before .before .before .before .before .before .before .before .before .before .build .last .1 .1 .1 .1 .1 .1 .1 .1 .1 .0) ≡ length (start (going c .before .before) .args .boxes .now)
-  back-b c = c .before .before .before .before .before .boxes .given ∙ sizes (going c .before) .same-b
+  back-b : (c : Returned) → length (built c .build .last .1 .1 .1 .1 .1 .1 .1 .1 .1 .0) ≡ length (start (going c .before .before) .args .boxes .now)
+  back-b c = built-b c .boxes .given ∙ sizes (going c .before) .same-b
 
-  back-s : (c : Returned) → length (c .before .before .before .before .before .before .before .before .before .before .before .before .build .last .1 .1 .1 .1 .1 .1 .1 .1 .1 .1 .1 .1 .0) ≡ length (going c .before .loop .scratch)
+  back-s : (c : Returned) → length (built c .build .last .1 .1 .1 .1 .1 .1 .1 .1 .1 .1 .1 .1 .0) ≡ length (going c .before .loop .scratch)
   back-s c = c .before .before .before .scratch2 .given
 
-  back-k : (c : Returned) → length (c .before .before .before .before .before .before .before .before .before .before .before .before .build .last .1 .1 .1 .1 .1 .1 .1 .1 .1 .1 .1 .1 .1 .0) ≡ length (going c .before .loop .codes)
+  back-k : (c : Returned) → length (built c .build .last .1 .1 .1 .1 .1 .1 .1 .1 .1 .1 .1 .1 .1 .0) ≡ length (going c .before .loop .codes)
   back-k c = c .before .codes2 .given
 
   -- what the child promised, of the octant's own subtree
-  planted : (c : Returned) (q : From (going c .before .before)) → let b = c .before .before .before .before .before .before .before .before .before .before .before .before .build in let s = going c in let L = s .before .loop in
+  planted : (c : Returned) (q : From (going c .before .before)) → let b = built c .build in let s = going c in let L = s .before .loop in
       Planted (site (s .before .before) q .room) (childTree (site (s .before .before) q) (turn (s .before)) (oct s)) (L .next) (b .result) (b .last .1 .1 .1 .1 .0) (b .last .1 .1 .1 .1 .1 .0)
       (L .records) (b .last .1 .1 .1 .1 .1 .1 .1 .1 .0) (L .boxes) (b .last .1 .1 .1 .1 .1 .1 .1 .1 .1 .0)
   planted c q =
       let s = going c in
       let z = grows (s .before) q in
       let v = visited s q in
-      rw (← c .before .before .before .before .before .before .before .before .before .before .before .before .before .before .before .before .before .before .before .child .ensures, ← child-points (next-c z v), ← child-points (next-w z v)) (c .before .before .before .before .before .before .before .before .before .before .before .before .build .ensures)
+      rw (← boxed (built c .before) .child .ensures, ← child-points (next-c z v), ← child-points (next-w z v)) (built c .build .ensures)
 
   -- ---- the needs that ask for more than a search
   -- no room for the node itself
   returns : build-lts.Need-returns (calls t) (build-at t) build.Post Inv μ-loop
   returns c =
-      let g = c .before .before .before .before .before .before .before .before .before .args in
-      inr (omega (arith, c .if1 .taken, subtree-some (g .centers .now) (g .waters .now) (14 - g .depth) (g .at) (g .fc) (g .fw) (g .b) (g .corder .now) (g .worder .now)), refl)
+      let g = given (c .before) .args in
+      inr (omega (arith, c .if1 .taken, subtree-some (g .centers .now) (g .waters .now) (maxDepth - g .depth) (g .at) (g .fc) (g .fw) (g .b) (g .corder .now) (g .worder .now)), refl)
 
   divide-requires : build-lts.Need-divide-requires (calls t) (build-at t) build.Post Inv μ-loop
   divide-requires c κs =
-      let r = c .before .before .before .before .before .before .before .before .before .before .before .before .before .before .before .pre .1 in
+      let r = given (roomy c .before) .pre .1 in
       (r .depth-ok, (record { few = omega (arith, r); fresh = refl; room-s = r .scratch-c; room-k = r .codes-c }, record { few = omega (arith, r); fresh = refl; room-s = r .scratch-w; room-k = r .codes-w }))
 
   loop-holds : build-lts.Need-loop-holds (calls t) (build-at t) build.Post Inv μ-loop
   loop-holds c = (
-    λ q. begin (site c q) (cs₁ c) (ws₁ c) (omega (arith, c .before .before .before .before .before .before .before .before .before .before .before .before .before .before .before .if1 .left)) (q .was-c .order) (q .was-w .order),
-    record { same-c = refl; same-w = refl; same-r = refl; same-b = refl; same-s = refl; same-k = refl; turns-ok = omega (arith, c .before .before .before .before .before .before .before .before .divide .ensures .1 .0); less = omega arith },
+    λ q. begin (site c q) (cs₁ c) (ws₁ c) (omega (arith, roomy (divided c .before) .if1 .left)) (q .was-c .order) (q .was-w .order),
+    record { same-c = refl; same-w = refl; same-r = refl; same-b = refl; same-s = refl; same-k = refl; turns-ok = omega (arith, divided c .divide .ensures .1 .0); less = omega arith },
   )
 
   -- an octant without points
@@ -294,7 +347,7 @@ module _ (t : ℕ) where
   -- the child is deeper, and its lists and tables are large enough
   build-requires : build-lts.Need-build-requires (calls t) (build-at t) build.Post Inv μ-loop
   build-requires c κs =
-      let s = c .before .before .before .before .before .before .before .before in
+      let s = octant (boxed c) in
       let u = s .before in
       let q = own (u .before) in
       let g = start (u .before) .args in
@@ -303,9 +356,9 @@ module _ (t : ℕ) where
       let bd = bounded s in
       let lc = child-size (next-c (grows u q) (visited s q)) in
       let lw = child-size (next-w (grows u q) (visited s q)) in
-      let deep : g .depth < 14 = u .before .before .before .before .before .before .before .before .before .divide .ensures .1 .1 .0 (omega (arith, some-left s, sz .less)) in
-      let r1 : g .fc + u .loop .ca + length (stretch (u .loop .ca) (nc s) (u .loop .corder)) ≤ 65536 = omega (arith, lc, bd) in
-      let r2 : g .fw + u .loop .wa + length (stretch (u .loop .wa) (nw s) (u .loop .worder)) ≤ 65536 = omega (arith, lw, bd) in
+      let deep : g .depth < maxDepth = divided (u .before) .divide .ensures .1 .1 .0 (omega (arith, some-left s, sz .less)) in
+      let r1 : g .fc + u .loop .ca + length (stretch (u .loop .ca) (nc s) (u .loop .corder)) ≤ maxAtoms = omega (arith, lc, bd) in
+      let r2 : g .fw + u .loop .wa + length (stretch (u .loop .wa) (nw s) (u .loop .worder)) ≤ maxAtoms = omega (arith, lw, bd) in
       let r3 : g .room * 8 ≤ length (u .loop .records) = omega (arith, sz .same-r, r .room-r) in
       let r4 : g .room * 6 ≤ length (u .loop .boxes) = omega (arith, sz .same-b, r .room-b) in
       let r5 : length (stretch (u .loop .ca) (nc s) (u .loop .corder)) ≤ length (u .loop .scratch) = omega (arith, lc, same-s u, bd, same-c u, r .scratch-c) in
@@ -328,7 +381,7 @@ module _ (t : ℕ) where
   -- the child is done
   loop-again-2 : build-lts.Need-loop-again-2 (calls t) (build-at t) build.Post Inv μ-loop
   loop-again-2 c =
-      let b = c .before .before .before .before in
+      let b = back (c .before) in
       let s = going b in
       let u = s .before in
       let g = start (u .before) .args in
@@ -337,8 +390,8 @@ module _ (t : ℕ) where
       let n = c .before .before .n .given in (
         λ q.
             let f = filled-of _ _ _ _ _ _ _ _ _ _ (planted b q) (n .0 .0) (n .0 .1 .0) (n .1) in
-            step-child (grows u q) (visited s q) (some b) (n .0 .0) (c .larger .result) (f .1) (f .2) (c .larger .ensures ∙ ap (max (u .loop .deep)) (f .3)) (omega (arith, f .0, f .2))
-            (subtree-roots (g .centers .now) (g .waters .now) (14 - (g .depth + 1)) _ _ _ _ _ _) (r .room-r) (r .room-b) (b .before .before .before .before .before .before .before .before .before .before .before .corder2 .given .0) (b .before .before .before .before .before .before .before .before .before .worder2 .given .0),
+            step-child (grows u q) (visited s q) (some b) (n .0 .0) (c .max .result) (f .1) (f .2) (c .max .ensures ∙ ap (max (u .loop .deep)) (f .3)) (omega (arith, f .0, f .2))
+            (subtree-roots (g .centers .now) (g .waters .now) (maxDepth - (g .depth + 1)) _ _ _ _ _ _) (r .room-r) (r .room-b) (built-c (built-w (built-r (built-b b))) .corder2 .given .0) (built-w (built-r (built-b b)) .worder2 .given .0),
         record {
           same-c = back-c b ∙ sz .same-c;
           same-w = back-w b ∙ sz .same-w;
@@ -372,11 +425,11 @@ module _ (t : ℕ) where
 
   returns-3 : build-lts.Need-returns-3 (calls t) (build-at t) build.Post Inv μ-loop
   returns-3 c =
-      let u = c .before .before .before .before .before .before .before .before in
+      let u = last c in
       let q = own (u .before) in
       let r = ready (u .before) in
-      let p = c .before .before .before .before .put-node .ensures in
-      let none-left : u .loop .left ≡ 0 = omega (arith, c .before .before .before .before .before .before .before .loop-test .left) in
+      let p = put c .put-node .ensures in
+      let none-left : u .loop .left ≡ 0 = omega (arith, done (put c) .loop-test .left) in
       rw (subtree-is (u .before))
       (finish (site (u .before) q) (turn u) (grows u q) none-left (r .room-r) (r .room-b) _ _ _ _ (same-c u) (same-w u) (p .0) (p .1))
 
@@ -407,17 +460,17 @@ pub +build-spec : {M : Type 1} → statement M
     (λ c. omega (arith, bounded t (c .before)))
     (λ c. omega (arith, bounded t (c .before)))
     (λ c κs. search needs)
-    (λ c. omega (arith, bounded t (c .before .before)))
-    (λ c. omega (arith, bounded t (c .before .before)))
+    (λ c. omega (arith, bounded t (octant t c)))
+    (λ c. omega (arith, bounded t (octant t c)))
     (λ c. search needs)
     (λ c. search needs)
-    (λ c. omega (arith, bounded t (c .before .before)))
-    (λ c. omega (arith, bounded t (c .before .before .before)))
+    (λ c. omega (arith, bounded t (octant t c)))
+    (λ c. omega (arith, bounded t (octant t (c .before))))
     (λ c. search needs)
     (λ c. search needs)
-    (λ c. omega (arith, bounded t (c .before .before .before)))
-    (λ c. omega (arith, bounded t (c .before .before .before .before)))
-    (λ c. omega (arith, bounded t (c .before .before .before .before)))
+    (λ c. omega (arith, bounded t (octant t (c .before))))
+    (λ c. omega (arith, bounded t (octant t (c .before .before))))
+    (λ c. omega (arith, bounded t (octant t (c .before .before))))
     (build-requires t)
     (λ c. search needs)
     (λ c. search needs)
@@ -430,16 +483,16 @@ pub +build-spec : {M : Type 1} → statement M
     (λ c. back-k t (c .before .before) ∙ same-k t (going t (c .before .before) .before))
     (returns-2 t)
     -- the child is done
-    (λ c. omega (arith, bounded t (c .before .before .before .before .before .before .before .before .before .before .before .before .before .before .before .before .before .before .before .before .before .before .before .before)))
+    (λ c. omega (arith, bounded t (going t (back t c))))
     (λ c κs. search needs)
-    (λ c. omega (arith, bounded t (c .before .before .before .before .before .before .before .before .before .before .before .before .before .before .before .before .before .before .before .before .before .before .before .before .before)))
+    (λ c. omega (arith, bounded t (going t (back t (c .before)))))
     (loop-again-2 t)
     -- the node itself
     (put-node-requires t)
-    (λ c. same-c t (c .before .before .before .before .before .before .before .before))
-    (λ c. same-w t (c .before .before .before .before .before .before .before .before))
+    (λ c. same-c t (last t c))
+    (λ c. same-w t (last t c))
     (λ c. search needs)
     (λ c. search needs)
-    (λ c. same-s t (c .before .before .before .before .before .before .before .before))
-    (λ c. same-k t (c .before .before .before .before .before .before .before .before))
+    (λ c. same-s t (last t c))
+    (λ c. same-k t (last t c))
     (returns-3 t)

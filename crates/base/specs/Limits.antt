@@ -1,0 +1,15 @@
+-- Document 01, 'Answers by operation': the limits on numbers. Definitions only. Assumes nothing.
+use Prim.Native.Nat.{ℕ}
+
+-- solute atoms, and waters
+abbrev pub maxAtoms : ℕ
+maxAtoms = 65536
+
+abbrev pub maxIndices : ℕ
+maxIndices = 256
+
+abbrev pub maxCopies : ℕ
+maxCopies = 4096
+
+abbrev pub maxPicks : ℕ
+maxPicks = 65536

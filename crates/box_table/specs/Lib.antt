@@ -1,2 +1,0 @@
--- The boxes of all copies in one table.
-pub mod BoxTable

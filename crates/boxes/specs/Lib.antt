@@ -1,2 +1,0 @@
--- Boxes around the picks of a copy.
-pub mod Boxes

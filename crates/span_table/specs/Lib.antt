@@ -1,0 +1,2 @@
+-- What only contracts of inner functions cite.
+pub mod Inner
