@@ -1,6 +1,6 @@
--- What holds of every tree: it has at most 15 nodes for each point, and every node has depth 14 at most and its points within the order
--- lists. Both by the points of the octants from one on. Assumes nothing.
-use mathlib.Core.Path.{_≡_, sym, ap, subst, _∙_}
+-- What holds of every tree: it has at most 15 nodes for each point, every node has depth 14 at most and its points within the order
+-- lists, and these have a number for each point. All by the points of the octants from one on. Assumes nothing.
+use mathlib.Core.Path.{_≡_, refl, sym, ap, subst, _∙_}
 use mathlib.Core.Logic.{⊎-elim}
 use mathlib.Core.Bool.{Bool, true, false, cond}
 use mathlib.Core.List.{List, [], _∷_, _++_}
@@ -164,3 +164,47 @@ nodes-within b C W =
     every-weaker (NodeWithin 0 (length (pointNumbers C)) 0 (length (pointNumbers W))) (NodeWithin 0 (length C / 3) 0 (length W / 3)) (treeOf b C W .nodes)
     (wider 0 (length C / 3) 0 (length W / 3) 0 (length (pointNumbers C)) 0 (length (pointNumbers W)) (omega arith) (omega (arith, kc)) (omega arith) (omega (arith, kw)))
     (where-inside C W (subtree C W maxDepth) (subtree-inside C W maxDepth) 0 0 0 b (pointNumbers C) (pointNumbers W))
+
+-- ---- the order lists: as many numbers as points
+abbrev Ordered : List ℕ → List ℕ → Subtrees → Type 0
+Ordered cs ws g = (length (g .centerOrder) ≡ length cs) × (length (g .waterOrder) ≡ length ws)
+
+module _ (C W : List Float) (go : Builder) (h : (at fc fw : ℕ) (b : OctreeBounds) (cs ws : List ℕ) → Ordered cs ws (go at fc fw b cs ws)) where
+  where-ordered : (at fc fw : ℕ) (b : OctreeBounds) (cs ws : List ℕ) → Ordered cs ws (whereSome go at fc fw b cs ws)
+  where-ordered at fc fw b cs ws =
+      some-or-none (Ordered cs ws) go at fc fw b cs ws
+      (λ e. rw (no-points go at fc fw b cs ws e) (omega (arith, e), omega (arith, e))) (λ p. h at fc fw b cs ws)
+
+  children-ordered : (left at fc fw : ℕ) (b : OctreeBounds) (cs ws : List ℕ)
+      → Ordered (listsFrom (byOctant C (b .center) cs) left) (listsFrom (byOctant W (b .center) ws) left) (childrenFrom C W go left at fc fw b cs ws)
+  unfolding childrenFrom listsFrom
+  children-ordered zero at fc fw b cs ws = (refl, refl)
+  children-ordered (suc l) at fc fw b cs ws =
+      let c = octantPoints C (b .center) (7 - l) cs in
+      let w = octantPoints W (b .center) (7 - l) ws in
+      let s = whereSome go at fc fw (childOf b (7 - l)) c w in
+      let r = childrenFrom C W go l (at + length (s .nodes)) (fc + length c) (fw + length w) b cs ws in
+      let first = where-ordered at fc fw (childOf b (7 - l)) c w in
+      let rest = children-ordered l (at + length (s .nodes)) (fc + length c) (fw + length w) b cs ws in (
+        omega (arith, first .0, rest .0, length-append (s .centerOrder) (r .centerOrder), length-append c (listsFrom (byOctant C (b .center) cs) l)),
+        omega (arith, first .1, rest .1, length-append (s .waterOrder) (r .waterOrder), length-append w (listsFrom (byOctant W (b .center) ws) l)),
+      )
+
+  all-ordered : (at fc fw : ℕ) (b : OctreeBounds) (cs ws : List ℕ) → Ordered cs ws (childrenFrom C W go 8 at fc fw b cs ws)
+  all-ordered at fc fw b cs ws =
+      let e = children-ordered 8 at fc fw b cs ws in
+      (e .0 ∙ octants-length C (b .center) cs, e .1 ∙ octants-length W (b .center) ws)
+
+subtree-ordered : (C W : List Float) (levels at fc fw : ℕ) (b : OctreeBounds) (cs ws : List ℕ) → Ordered cs ws (subtree C W levels at fc fw b cs ws)
+unfolding subtree
+subtree-ordered C W zero at fc fw b cs ws = (refl, refl)
+subtree-ordered C W (suc levels) at fc fw b cs ws =
+    either (Ordered cs ws) (splits b cs) (childrenFrom C W (subtree C W levels) 8 (at + 1) fc fw b cs ws) (none cs ws)
+    (all-ordered C W (subtree C W levels) (subtree-ordered C W levels) (at + 1) fc fw b cs ws) (refl, refl)
+
+-- so a tree's order list replaces a lent list of as many entries whole
+pub tree-ordered : (b : OctreeBounds) (C W : List Float) → (length (treeOf b C W .centerOrder) ≡ length C / 3) × (length (treeOf b C W .waterOrder) ≡ length W / 3)
+unfolding treeOf
+tree-ordered b C W =
+    let e = where-ordered C W (subtree C W maxDepth) (subtree-ordered C W maxDepth) 0 0 0 b (pointNumbers C) (pointNumbers W) in
+    (e .0 ∙ numbers-length (length C / 3), e .1 ∙ numbers-length (length W / 3))

@@ -2,7 +2,7 @@
 -- ---- the tree
 -- subtrees side by side, and what stands below a node by the octants that it visits
 pub mod Children
--- how many nodes a tree has, and what holds of each
+-- how many nodes a tree has, what holds of each, and how long the order lists are
 pub mod Counting
 -- ---- the builder
 -- a child's stretch of an order list
