@@ -20,7 +20,7 @@ use Rattle.cluster_table.specs.Fractions.{tableFractions}
 use Rattle.clusters.specs.declared.Closing.{Closing}
 use Rattle.clusters.specs.declared.Closing.the-variants.{Fractions, Refused}
 
--- ---- Close's cases (Open and Row answer by `cell`'s `answerOf`)
+-- ---- Close's cases (Open and Row answer by `base`'s `answerOf`)
 -- a refusal's number, 0 for the fractions
 abbrev pub closeNumber : Closing → ℕ
 closeNumber (Refused n) = n

@@ -95,7 +95,7 @@ unsigned (inf s) = false
 unsigned (fin true m e) = false
 unsigned (fin false m e) = true
 
--- y + z is total y z / (den y * den z)
+-- y + z is crossSum y z / (den y * den z)
 abbrev pub crossSum : Float → Float → ℕ
 crossSum y z = num y * den z + num z * den y
 

@@ -61,7 +61,7 @@ fn holds(least: f32, most: f32, l: f32, m: f32, e: f32) -> bool
 // Where a gate starts: a little above the cutoff.
 const GATE_START: f32 = 4.25;
 
-// The gate from there to e less it where its tests hold, and one that nothing passes where they do not: cells below about 8.5.
+// The gate from there to e less it where its tests hold, and one that rejects nothing where they do not: cells below about 8.5.
 fn gate_of(e: f32) -> Gate
     ensures { λ g. ⌜ g ≡ gateOf e ⌝ }
 {

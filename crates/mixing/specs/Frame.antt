@@ -10,7 +10,7 @@ use Rattle.cell.specs.declared.Cell.{Cell}
 use Rattle.base.specs.Refusals.{Refusal, firstRefusal}
 use Rattle.frame_limits.specs.Limits.{limitRefusals}
 use Rattle.base.specs.Tables.{unlessRefused}
-use Rattle.selection.specs.Selection.{keptCopies, startsOf, picksOf, selectStarts, selectPicks}
+use Rattle.selection.specs.Selection.{keptCopies, startsOf, picksOf, startsAfter, picksAfter}
 use Rattle.pick_lists.specs.Input.{Input, given}
 use Rattle.cluster_table.specs.Fractions.{tableFractions}
 use Rattle.scan.specs.Scan.{scanned}
@@ -122,8 +122,8 @@ frameAnswer f t = cond (frameBlank f) Blank (refusedOr (frameRefusal f t) (mixed
 unfoldable pub worked : ℕ → Frame → FrameTables → FrameTables
 worked r f t =
     record {
-      starts = selectStarts (f .solutes) (f .per) (f .indices) (t .starts) (t .picks);
-      picks = selectPicks (f .solutes) (f .per) (f .indices) (t .starts) (t .picks);
+      starts = startsAfter (f .solutes) (f .per) (f .indices) (t .starts) (t .picks);
+      picks = picksAfter (f .solutes) (f .per) (f .indices) (t .starts) (t .picks);
       clusters = scanned (scanInput f) (t .clusters);
       tree = inputAfter r (treeInput f) (t .tree);
       leaves = leavesBy r (treeInput f) (t .leaves);

@@ -4,7 +4,7 @@ ghost use mathlib.Core.Path.{_≡_};
 ghost use mathlib.Core.List.{[]};
 ghost use Rattle.base.specs.Entry.{old};
 ghost use Rattle.pick_lists.specs.Input.{given};
-ghost use Rattle.selection.specs.Selection.{selectRefusal, selectAnswer, selectValues, selectStarts, selectPicks};
+ghost use Rattle.selection.specs.Selection.{selectRefusal, selectAnswer, selectValues, startsAfter, picksAfter};
 ghost use Rattle.clusters.specs.Answers.{openRefusal, openAfter, rowRefusal, rowAfter, closeRefusal, closeAnswer, closeValues};
 ghost use Rattle.centers.specs.Centers.{centersRefusal, centersAfter};
 ghost use Rattle.dispersion.specs.Dispersion.{dispersionRefusal, dispersionAnswer, dispersionValues};
@@ -25,8 +25,8 @@ pub extern "C" fn baithrum_select(
     answers: &mut [u32],
 ) -> u32
     ensures number { λ r. ⌜ r ≡ selectRefusal (old solutes) per (old indices) (old starts) (old picks) ⌝ }
-    ensures starts_after { λ r. ⌜ now (starts .exit) ≡ selectStarts (old solutes) per (old indices) (old starts) (old picks) ⌝ }
-    ensures picks_after { λ r. ⌜ now (picks .exit) ≡ selectPicks (old solutes) per (old indices) (old starts) (old picks) ⌝ }
+    ensures starts_after { λ r. ⌜ now (starts .exit) ≡ startsAfter (old solutes) per (old indices) (old starts) (old picks) ⌝ }
+    ensures picks_after { λ r. ⌜ now (picks .exit) ≡ picksAfter (old solutes) per (old indices) (old starts) (old picks) ⌝ }
     ensures answers_after { λ r. ⌜ now (answers .exit) ≡ answersAfter (selectValues (selectAnswer (old solutes) per (old indices) (old starts) (old picks))) (old answers) ⌝ }
 {
     answers::selected(

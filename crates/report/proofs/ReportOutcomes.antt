@@ -31,6 +31,7 @@ use Rattle.tree.proofs.Outcomes.{unchanged}
 use Rattle.leaf.specs.Leaf.{shellFrom, densityOf, referenceVolume}
 use Rattle.leaf_table.specs.LeafTable.{leafWords, leavesFrom, reportedLeaves, dryLeaves}
 use Rattle.leaf_table.specs.Inner.{nodeAt, nodesFrom}
+use Rattle.report.specs.Inner.{coreAnswer}
 use Rattle.report.specs.Report.{leafTable, reportRoom, reportRefusal, answerBy, reportAnswer, reportNumber, leavesBy, reportAfter, leavesAfter}
 use Rattle.report.specs.declared.Reported.{Reported}
 use Rattle.report.specs.declared.Reported.the-variants.{Leaves, Refused}
@@ -139,7 +140,7 @@ module _ (f : Input) (t : TreeTables) (leaves : List ℕ) where
   -- the core's answer, where the tests refuse nothing
   pub report-worked :
       (a : Reported) (u : TreeTables) (table : List ℕ) → firstRefusal (tests f (t .centerOrder) (t .waterOrder)) ≡ 0 →
-      (a ≡ answerBy (firstRefusal (roomRefusal (reportRoom t leaves) (frameTree f) ∷ [])) f) × ((u ≡ inputAfter (reportNumber a) f t) × (table ≡ leavesBy (reportNumber a) f leaves)) →
+      (a ≡ coreAnswer f t leaves) × ((u ≡ inputAfter (reportNumber a) f t) × (table ≡ leavesBy (reportNumber a) f leaves)) →
       Report a u table
   unfolding reportAnswer reportAfter leavesAfter reportRefusal
   report-worked a u table none (answer, after) =

@@ -2,18 +2,17 @@
 // what Tree keeps on its stack.
 ghost use mathlib.Core.Path.{_≡_};
 ghost use mathlib.Core.Bool.{true};
-ghost use mathlib.Core.List.{[], _∷_};
 ghost use Prim.Native.Nat.{_≤_, _*_};
 ghost use lib.ListN.{length};
 ghost use Rattle.base.specs.Entry.{old};
 ghost use Rattle.base.specs.Limits.{maxAtoms};
-ghost use Rattle.base.specs.Refusals.{firstRefusal};
 ghost use Rattle.pick_lists.specs.Sound.{soundLists, copies};
 ghost use Rattle.pick_lists.specs.Input.{given};
-ghost use Rattle.octree.specs.Tree.{roomRefusal, treeTables};
+ghost use Rattle.octree.specs.Tree.{treeTables};
 ghost use Rattle.points.specs.Points.{finiteWaters};
-ghost use Rattle.tree.specs.Tree.{frameTree, inputAfter};
-ghost use Rattle.report.specs.Report.{reportRoom, answerBy, reportAnswer, reportNumber, reportAfter, leavesBy, leavesAfter};
+ghost use Rattle.tree.specs.Tree.{inputAfter};
+ghost use Rattle.report.specs.Inner.{coreAnswer};
+ghost use Rattle.report.specs.Report.{reportAnswer, reportNumber, reportAfter, leavesBy, leavesAfter};
 use cell::Cell;
 use octree::Built;
 
@@ -40,7 +39,7 @@ pub fn report_of(
     requires { ⌜ soundLists (now solutes) (now starts) (now picks) ≡ true ⌝ }
     requires { ⌜ length (now waters) ≤ maxAtoms * 3 ⌝ }
     requires { ⌜ (copies (now starts) ≤ length (now «center_order»)) × (finiteWaters (now waters) ≤ length (now «water_order»)) ⌝ }
-    ensures answer { λ r. ⌜ r ≡ answerBy (firstRefusal (roomRefusal (reportRoom (treeTables (old «center_order») (old «water_order») (old records) (old boxes)) (old leaves)) (frameTree (given cell (old solutes) (old waters) (old starts) (old picks))) ∷ [])) (given cell (old solutes) (old waters) (old starts) (old picks)) ⌝ }
+    ensures answer { λ r. ⌜ r ≡ coreAnswer (given cell (old solutes) (old waters) (old starts) (old picks)) (treeTables (old «center_order») (old «water_order») (old records) (old boxes)) (old leaves) ⌝ }
     ensures after { λ r. ⌜ treeTables (now («center_order» .exit)) (now («water_order» .exit)) (now (records .exit)) (now (boxes .exit))
         ≡ inputAfter (reportNumber r) (given cell (old solutes) (old waters) (old starts) (old picks)) (treeTables (old «center_order») (old «water_order») (old records) (old boxes)) ⌝ }
     ensures reported { λ r. ⌜ now (leaves .exit) ≡ leavesBy (reportNumber r) (given cell (old solutes) (old waters) (old starts) (old picks)) (old leaves) ⌝ }

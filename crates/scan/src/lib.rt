@@ -1,4 +1,4 @@
-// The unchecked scan of every row (document 01, 'Whole frame'): Open and the rows in rising order, for input that nothing refuses, with one box table
+// The unchecked scan of every row (document 01, 'Whole frame'): Open and the rows in rising order, for input that nothing refuses, with one span table
 // for all rows. What a row adds is crate `clusters`' own.
 ghost use mathlib.Core.Path.{_≡_};
 ghost use mathlib.Core.Bool.{true};
@@ -20,7 +20,7 @@ use base::MAX_COPIES;
 use cell::Cell;
 use gates::Gates;
 
-// Row i as `clusters::scan_row`, given the cell's gates and the box table; `flags` is scratch.
+// Row i as `clusters::scan_row`, given the cell's gates and the span table; `flags` is scratch.
 fn scan_boxed(
     cell: Cell,
     g: Gates,
@@ -51,7 +51,7 @@ fn scan_boxed(
     cluster_table::set_mark(table, n, i);
 }
 
-// Opens the table and scans every row in rising order, with the box table.
+// Opens the table and scans every row in rising order, with the span table.
 fn scan_rows(
     cell: Cell,
     g: Gates,
@@ -86,7 +86,7 @@ fn flag_room() -> [u32; MAX_COPIES] {
     [0u32; MAX_COPIES]
 }
 
-// Opens the table and scans every row in rising order, for input that nothing refuses: the core of the whole frame. The box table is made once.
+// Opens the table and scans every row in rising order, for input that nothing refuses: the core of the whole frame. The span table is made once.
 pub fn scan_all(cell: Cell, solutes: &[f32], starts: &[u32], picks: &[u32], table: &mut [u32])
     requires { ⌜ firstRefusal (inputRefusals (given cell (now solutes) [] (now starts) (now picks))) ≡ 0 ⌝ }
     requires { ⌜ words (copies (now starts)) ≤ length (now table) ⌝ }

@@ -17,7 +17,7 @@ use Rattle.base.proofs.FirstRefusal.{numbered, first-none, append-hit, append-s
 use Rattle.base.proofs.Tests.{neither}
 use Rattle.selection.specs.declared.Selected.{Selected}
 use Rattle.selection.specs.declared.Selected.the-variants.{Refused, Kept}
-use Rattle.selection.specs.Selection.{keptCopies, picksOf, startsOf, listRefusals, roomRefusals, selectRefusals, selectRefusal, selectAnswer, selectStarts, selectPicks}
+use Rattle.selection.specs.Selection.{keptCopies, picksOf, startsOf, listRefusals, roomRefusals, selectRefusals, selectRefusal, selectAnswer, startsAfter, picksAfter}
 
 -- two limits, neither of them passed
 pub both-within : (m n i j : ℕ) → (ltb m n || ltb i j) ≡ false → (n ≤ m) × (j ≤ i)
@@ -51,18 +51,18 @@ module _ (solutes : List Float) (per : ℕ) (indices starts picks : List ℕ) wh
 
   -- the answer r and the tables afterwards are Select's
   abbrev pub Answers : Selected → List ℕ → List ℕ → Type 0
-  Answers r starts′ picks′ = (r ≡ selectAnswer solutes per indices starts picks) × ((starts′ ≡ selectStarts solutes per indices starts picks) × (picks′ ≡ selectPicks solutes per indices starts picks))
+  Answers r starts′ picks′ = (r ≡ selectAnswer solutes per indices starts picks) × ((starts′ ≡ startsAfter solutes per indices starts picks) × (picks′ ≡ picksAfter solutes per indices starts picks))
 
   -- a refusal leaves both tables
   refused : (r : ℕ) → r ≡ selectRefusal solutes per indices starts picks → (r ≡ 0 → ⊥) → Answers (Refused r) starts picks
-  unfolding selectAnswer selectStarts selectPicks
+  unfolding selectAnswer startsAfter picksAfter
   refused r e n =
       let cs = keptCopies solutes per indices in
       rw (← e) (sym (at-refusal r (Kept (length cs) (length (picksOf cs))) (Refused r) n), (sym (at-refusal r (over (startsOf cs) starts) starts n), sym (at-refusal r (over (picksOf cs) picks) picks n)))
 
   -- success writes both
   written : selectRefusal solutes per indices starts picks ≡ 0 → let cs = keptCopies solutes per indices in Answers (Kept (length cs) (length (picksOf cs))) (over (startsOf cs) starts) (over (picksOf cs) picks)
-  unfolding selectAnswer selectStarts selectPicks
+  unfolding selectAnswer startsAfter picksAfter
   written e = rw e (refl, (refl, refl))
 
   -- a refusal of the lists is the first

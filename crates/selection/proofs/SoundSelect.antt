@@ -17,7 +17,7 @@ use Rattle.base.specs.Refusals.{refuse, firstRefusal}
 use Rattle.base.specs.Tables.{over}
 use Rattle.base.proofs.FirstRefusal.{first-none}
 use Rattle.pick_lists.specs.Sound.{finiteAtom, rises, allFinite, copies, soundLists}
-use Rattle.selection.specs.Selection.{finiteAtoms, indexed, orElse, picked, keep, copiesFrom, chunks, keptCopies, picksOf, startsFrom, startsOf, listRefusals, roomRefusals, selectRefusals, selectRefusal, selectStarts, selectPicks}
+use Rattle.selection.specs.Selection.{finiteAtoms, indexed, orElse, picked, keep, copiesFrom, chunks, keptCopies, picksOf, startsFrom, startsOf, listRefusals, roomRefusals, selectRefusals, selectRefusal, startsAfter, picksAfter}
 use Rattle.selection.proofs.SelectRefusals.{both-within}
 use Rattle.pick_lists.proofs.SoundLists.{starts-sound}
 
@@ -206,17 +206,17 @@ module _ (solutes : List Float) (per : ℕ) (is starts picks : List ℕ) (accept
       room-none cs starts picks (first-none (coordinates solutes []) after (λ h. omega arith) (n2 .1) .1)
 
   -- the tables' first entries are the pick lists
-  pub starts-selected : take (length (keptCopies solutes per is) + 1) (selectStarts solutes per is starts picks) ≡ startsOf (keptCopies solutes per is)
-  unfolding selectStarts over
+  pub starts-selected : take (length (keptCopies solutes per is) + 1) (startsAfter solutes per is starts picks) ≡ startsOf (keptCopies solutes per is)
+  unfolding startsAfter over
   starts-selected =
       let cs = keptCopies solutes per is in
       rw accepted (take-at (startsOf cs) (drop (length (startsOf cs)) starts) (length cs + 1) (starts-length cs))
 
-  pub picks-selected : take (length (picksOf (keptCopies solutes per is))) (selectPicks solutes per is starts picks) ≡ picksOf (keptCopies solutes per is)
-  unfolding selectPicks over
+  pub picks-selected : take (length (picksOf (keptCopies solutes per is))) (picksAfter solutes per is starts picks) ≡ picksOf (keptCopies solutes per is)
+  unfolding picksAfter over
   picks-selected =
       let all = picksOf (keptCopies solutes per is) in
       rw accepted (take-append-seam all (drop (length all) picks))
 
-  pub selected-sound : soundLists solutes (take (length (keptCopies solutes per is) + 1) (selectStarts solutes per is starts picks)) (take (length (picksOf (keptCopies solutes per is))) (selectPicks solutes per is starts picks)) ≡ true
+  pub selected-sound : soundLists solutes (take (length (keptCopies solutes per is) + 1) (startsAfter solutes per is starts picks)) (take (length (picksOf (keptCopies solutes per is))) (picksAfter solutes per is starts picks)) ≡ true
   selected-sound = rw (starts-selected, picks-selected) (select-sound solutes per is (select-room .few) (select-room .short))

@@ -113,10 +113,10 @@ selectValues (Refused n) = []
 selectValues (Kept copies picks) = copies ∷ picks ∷ []
 
 -- both tables afterwards
-unfoldable pub selectStarts : List Float → ℕ → List ℕ → List ℕ → List ℕ → List ℕ
+unfoldable pub startsAfter : List Float → ℕ → List ℕ → List ℕ → List ℕ → List ℕ
 unfolding selectRefusal keptCopies startsOf over
-selectStarts solutes per indices starts picks = unlessRefused (selectRefusal solutes per indices starts picks) (over (startsOf (keptCopies solutes per indices)) starts) starts
+startsAfter solutes per indices starts picks = unlessRefused (selectRefusal solutes per indices starts picks) (over (startsOf (keptCopies solutes per indices)) starts) starts
 
-unfoldable pub selectPicks : List Float → ℕ → List ℕ → List ℕ → List ℕ → List ℕ
+unfoldable pub picksAfter : List Float → ℕ → List ℕ → List ℕ → List ℕ → List ℕ
 unfolding selectRefusal keptCopies picksOf over
-selectPicks solutes per indices starts picks = unlessRefused (selectRefusal solutes per indices starts picks) (over (picksOf (keptCopies solutes per indices)) picks) picks
+picksAfter solutes per indices starts picks = unlessRefused (selectRefusal solutes per indices starts picks) (over (picksOf (keptCopies solutes per indices)) picks) picks

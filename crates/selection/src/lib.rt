@@ -7,7 +7,7 @@ ghost use Rattle.base.specs.Entry.{old};
 ghost use Rattle.base.specs.Limits.{maxAtoms, maxIndices, maxPicks};
 ghost use Rattle.base.specs.Refusals.{firstRefusal};
 ghost use Rattle.base.specs.Tables.{placed, over};
-ghost use Rattle.selection.specs.Selection.{finiteAtoms, indexed, picked, keptCopies, picksOf, startsOf, listRefusals, roomRefusals, selectAnswer, selectStarts, selectPicks};
+ghost use Rattle.selection.specs.Selection.{finiteAtoms, indexed, picked, keptCopies, picksOf, startsOf, listRefusals, roomRefusals, selectAnswer, startsAfter, picksAfter};
 use base::MAX_COPIES;
 use base::MAX_INDICES;
 use base::MAX_PICKS;
@@ -228,8 +228,8 @@ pub fn select(
     picks: &mut [u32],
 ) -> Selected
     ensures answer { λ r. ⌜ r ≡ selectAnswer (old solutes) per (old indices) (old starts) (old picks) ⌝ }
-    ensures starts_after { λ r. ⌜ now (starts .exit) ≡ selectStarts (old solutes) per (old indices) (old starts) (old picks) ⌝ }
-    ensures picks_after { λ r. ⌜ now (picks .exit) ≡ selectPicks (old solutes) per (old indices) (old starts) (old picks) ⌝ }
+    ensures starts_after { λ r. ⌜ now (starts .exit) ≡ startsAfter (old solutes) per (old indices) (old starts) (old picks) ⌝ }
+    ensures picks_after { λ r. ⌜ now (picks .exit) ≡ picksAfter (old solutes) per (old indices) (old starts) (old picks) ⌝ }
 {
     let unfit = list_refusal(solutes, indices);
     if unfit != 0 {

@@ -1,4 +1,4 @@
--- One axis of the box table, a copy at a time. Assumes nothing.
+-- One axis of the span table, a copy at a time. Assumes nothing.
 use mathlib.Core.Path.{_≡_, refl, _∙_}
 use mathlib.Core.Logic.{inl, inr}
 use mathlib.Core.List.{List}

@@ -1,4 +1,4 @@
--- The whole box table, from its three axes. Assumes nothing.
+-- The whole span table, from its three axes. Assumes nothing.
 use mathlib.Core.Path.{_≡_}
 use mathlib.Core.List.{List}
 use Prim.Native.Nat.{ℕ, _+_, _*_}

@@ -1,4 +1,4 @@
--- The box table of pick lists, and the flags of the copies that a gate keeps apart from one of them. Lengths are in angstrom.
+-- The span table of pick lists, and the flags of the copies that a gate keeps apart from one of them. Lengths are in angstrom.
 -- Definitions only. Assumes nothing.
 use mathlib.Core.Path.{_≡_}
 use mathlib.Core.Bool.{cond}
@@ -12,7 +12,7 @@ use Rattle.gates.specs.declared.Gates.{Gates}
 use Rattle.spans.specs.declared.Span.{Span}
 use Rattle.spans.specs.Inner.{spanOf, apartOf}
 
--- the box of copy i in a table of n copies
+-- the box of copy i in the table of n copies
 unfoldable pub spanAt : List Float → ℕ → ℕ → Span
 spanAt t n i =
     record {
@@ -20,7 +20,7 @@ spanAt t n i =
       high = record { x = getD t (n + i) nan; y = getD t (3 * n + i) nan; z = getD t (5 * n + i) nan };
     }
 
--- the box table of pick lists: the least x of each copy, then the greatest, and the same for y and z
+-- the span table of pick lists: the least x of each copy, then the greatest, and the same for y and z
 abbrev pub Spans : List Float → List ℕ → List ℕ → List Float → Type 0
 Spans xs starts picks t = (i : ℕ) → i < copies starts → spanAt t (copies starts) i ≡ spanOf xs (pickList starts picks i)
 

@@ -97,7 +97,7 @@ pub fn mark_apart(g: Gates, table: &[f32], flags: &mut [u32], n: usize, i: usize
     }
 }
 
-// Whether copies i and j of sound pick lists touch, given the cell's gates and the box table.
+// Whether copies i and j of sound pick lists touch, given the cell's gates and the span table.
 fn copies_touch(
     cell: Cell,
     g: Gates,

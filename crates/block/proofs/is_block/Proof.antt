@@ -7,6 +7,10 @@ use borrow.Author.Needs.{needs}
 use Rattle.block.proofs.is_block.Statement.{statement}
 use Rattle.block.proofs.is_block.Tie as tie
 
+-- a landmark: from the counts back to the tests
+abbrev kind : tie.After-count4 → tie.Else3
+kind c = c .before .before .before .before
+
 returns : tie.Need-returns
 returns c = sym (short-no-block _ (c .if1 .taken))
 
@@ -17,14 +21,14 @@ returns-3 : tie.Need-returns-3
 returns-3 c = sym (other-kind-no-block _ (λ e. c .if3 .taken (c .before .half .ensures .0 ∙ e)))
 
 returns-4 : tie.Need-returns-4
-returns-4 c = sym (other-length-no-block (c .before .before .before .before .before .before .before .before .before .before .args .bytes .now) (λ e. c .if4 .taken (omega arith)))
+returns-4 c = sym (other-length-no-block _ (λ e. c .if4 .taken (omega arith)))
 
 returns-5 : tie.Need-returns-5
 returns-5 c =
-    let e = c .before .before .before .before .before in
-    let b = e .before .before .before .before .before .args .bytes .now in
-    rw (c .before .before .before .before .count .ensures .0)
-    (sym (end-decides b (e .before .before .if2 .left) (sym (e .before .half .ensures .0) ∙ e .if3 .left) (omega arith)))
+    let n = c .before in
+    let e = kind n in
+    rw (n .before .before .before .count .ensures .0)
+    (sym (end-decides _ (e .before .before .if2 .left) (sym (e .before .half .ensures .0) ∙ e .if3 .left) (omega arith)))
 
 pub is-block-spec : {M : Type 1} → statement M
 is-block-spec =

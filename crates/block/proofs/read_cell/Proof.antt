@@ -7,13 +7,14 @@ use Rattle.block.proofs.read_cell.Tie as tie
 returns : tie.Need-returns
 unfolding blockCell
 returns c =
+    let low = c .before .before .before in
     rw (
       c .float6 .ensures,
       c .before .float5 .ensures,
       c .before .before .float4 .ensures,
-      c .before .before .before .float3 .ensures,
-      c .before .before .before .before .float2 .ensures,
-      c .before .before .before .before .before .float .ensures,
+      low .float3 .ensures,
+      low .before .float2 .ensures,
+      low .before .before .float .ensures,
     )
 
 pub read-cell-spec : {M : Type 1} → statement M

@@ -8,14 +8,29 @@ use borrow.Author.Needs.{needs}
 use Rattle.block_text.proofs.put_block.Statement.{statement}
 use Rattle.block_text.proofs.put_block.Tie as tie
 
+-- landmarks: from a place back to an earlier one. An `rw` is told to open those that it meets, or it would rewrite inside the place.
+abbrev start : tie.After-index-room → tie.Start
+start c = c .before .before .before
+
+abbrev rooms : tie.After-read-block → tie.After-atom-room2
+rooms c = c .before .before .before .before
+
+abbrev block : tie.After-waters2 → tie.After-read-block
+block c = c .before .before .before
+
+abbrev told : tie.After-waters3 → tie.After-per
+told c = c .before .before .before .before
+
 -- what was read is the block's frame
 got : (c : tie.After-per) →
-    Read (c .before .before .before .before .before .before .before .before .before .before .before .before .before .before .args .bytes .now) (c .before .before .before .before .before .before .before .before .before .before .before .index-room .result) (c .before .before .before .before .before .before .before .before .before .before .atom-room .result) (c .before .before .before .before .before .before .before .before .before .atom-room2 .result)
+    let b = block (c .before .before) in
+    let r = rooms b in
+    Read (start (r .before .before) .args .bytes .now) (r .before .before .index-room .result) (r .before .atom-room .result) (r .atom-room2 .result)
     (c .per .given .0 .0) (c .per .given .0 .1 .0) (c .per .given .0 .1 .1 .0) (c .per .given .0 .1 .1 .1 .0) (c .per .given .0 .1 .1 .1 .1 .0)
-    (c .before .before .before .before .before .read-block .last .1 .0) (c .before .before .before .before .before .read-block .last .1 .1 .0) (c .before .before .before .before .before .read-block .last .1 .1 .1 .0)
+    (b .read-block .last .1 .0) (b .read-block .last .1 .1 .0) (b .read-block .last .1 .1 .1 .0)
 got c =
-    read-frame _ (c .before .before .before .before .before .before .before .before .before .before .before .index-room .result) (c .before .before .before .before .before .before .before .before .before .before .atom-room .result) (c .before .before .before .before .before .before .before .before .before .atom-room2 .result) (search needs) (search needs) (search needs) _ _ _ _ _ _ _ _
-    (rw (c .per .given .1) at (c .before .before .before .before .before .read-block .ensures))
+    read-frame _ _ _ _ (search needs) (search needs) (search needs) _ _ _ _ _ _ _ _
+    (rw (c .per .given .1, block) at (block (c .before .before) .read-block .ensures))
 
 mul-solutes : tie.Need-mul-solutes
 mul-solutes c = omega (arith, counts-fit (got (c .before)))
@@ -39,14 +54,16 @@ array-share-prefix-waters : tie.Need-array-share-prefix-waters
 array-share-prefix-waters c = search (needs, counts-fit (got (c .before .before .before)))
 
 slice-aggregate-put-frame-3 : tie.Need-slice-aggregate-put-frame-3
-slice-aggregate-put-frame-3 c = sym (length-take-le _ _ (search (needs, counts-fit (got (c .before .before .before .before)))))
+slice-aggregate-put-frame-3 c = sym (length-take-le _ _ (search (needs, counts-fit (got (told c)))))
 
 returns : tie.Need-returns
 returns c =
-    rw (← refused-14 _ (c .before .before .before .before .before .before .before .before .before .before .before .before .before .before .before .before .index-room .result) (c .before .before .before .before .before .before .before .before .before .before .before .before .before .before .before .atom-room .result) (c .before .before .before .before .before .before .before .before .before .before .before .before .before .before .atom-room2 .result) (search needs) (search needs) (search needs) _ _ _ _ (rw (c .before .before .before .before .before .number .given .1) at (c .before .before .before .before .before .before .before .before .before .before .read-block .ensures))) (c .before .before .put-refused .ensures)
+    let p = c .before .before in
+    let n = p .before .before .before in
+    rw (← refused-14 _ _ _ _ (search needs) (search needs) (search needs) _ _ _ _ (rw (n .number .given .1, block) at (block (n .before .before) .read-block .ensures))) (p .put-refused .ensures)
 
 returns-2 : tie.Need-returns-2
-returns-2 c = rw (text-read (got (c .before .before .before .before .before .before .before .before))) at (c .before .before .put-frame .ensures)
+returns-2 c = let p = c .before .before in rw (text-read (got (told (p .before .before)))) at (p .put-frame .ensures)
 
 pub put-block-spec : {M : Type 1} → statement M
 put-block-spec =

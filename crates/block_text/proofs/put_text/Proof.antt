@@ -10,25 +10,29 @@ use borrow.Author.Needs.{needs}
 use Rattle.block_text.proofs.put_text.Statement.{statement}
 use Rattle.block_text.proofs.put_text.Tie as tie
 
+-- a landmark: from the text back to the start
+abbrev start : tie.After-put-block → tie.Start
+start c = c .before .before .before
+
 enum-told : tie.Need-enum-told
 enum-told c = search needs
 
 returns : tie.Need-returns
 returns c =
-    let a = c .before .before .before .before .before .before .args in
-    let text = printed (a .bytes .now) in
-    let fits = printed-fits (a .bytes .now) in
-    let w = whole text (a .out .now) (search (needs, fits)) (rw (c .before .n .given .1) at (c .before .before .before .put-block .ensures)) in
-    let n : c .before .n .given .0 .0 ≡ length text = cc in
-    let same : length (c .before .before .before .put-block .last .1 .0) ≡ textRoom = search needs in
+    let p = c .before .before .before in
+    let b = start p .args .bytes .now in
+    let fits = printed-fits b in
+    let w = whole (printed b) _ (search (needs, fits)) (rw (c .before .n .given .1) at (p .put-block .ensures)) in
+    let n : c .before .n .given .0 .0 ≡ length (printed b) = cc in
+    let same : length (p .put-block .last .1 .0) ≡ textRoom = search needs in
     ((n, omega (arith, n, fits, same)), w .1)
 
 returns-2 : tie.Need-returns-2
 returns-2 c =
-    let a = c .before .before .before .before .before .args in
-    let text = printed (a .bytes .now) in
-    let fits = printed-fits (a .bytes .now) in
-    let w = whole text (a .out .now) (search (needs, fits)) (rw (c .enum-told .given .1) at (c .before .before .put-block .ensures)) in
+    let p = c .before .before in
+    let b = start p .args .bytes .now in
+    let fits = printed-fits b in
+    let w = whole (printed b) _ (search (needs, fits)) (rw (c .enum-told .given .1) at (p .put-block .ensures)) in
     let never : _≡_ {A = ℕ} 0 1 = cc in
     absurd (omega (arith, never))
 

@@ -5,16 +5,20 @@ use Rattle.cell.specs.Cell.{distance2}
 use Rattle.cell.proofs.distance_squared.Statement.{statement}
 use Rattle.cell.proofs.distance_squared.Tie as tie
 
+-- a landmark: from the test back to the separation
+abbrev separated : tie.After-near-all → tie.After-separation
+separated c = c .before .before
+
 near-image-requires : tie.Need-near-image-requires
 near-image-requires c κs = (c .before .before .in-extents .ensures, sym (c .before .near-all .ensures) ∙ c .if1 .taken)
 
 returns : tie.Need-returns
 unfolding distance2
-returns c = rw (c .magnitude-squared .ensures, c .before .near-image .ensures, c .before .before .before .before .before .separation .ensures)
+returns c = rw (c .magnitude-squared .ensures, c .before .near-image .ensures, separated (c .before .before .before) .separation .ensures)
 
 returns-2 : tie.Need-returns-2
 unfolding distance2
-returns-2 c = rw (c .magnitude-squared2 .ensures, c .before .min-image .ensures, c .before .before .before .before .before .separation .ensures)
+returns-2 c = rw (c .magnitude-squared2 .ensures, c .before .min-image .ensures, separated (c .before .before .before) .separation .ensures)
 
 pub distance-squared-spec : {M : Type 1} → statement M
 distance-squared-spec =

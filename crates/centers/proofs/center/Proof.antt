@@ -17,6 +17,10 @@ Inv-loop cell xs picks anchor sum₀ j₀ sum j = (j ≤ length picks) × (sumFr
 abbrev μ-loop : tie.MeasureT-loop
 μ-loop cell xs picks anchor sum₀ j₀ sum j = length picks - j
 
+-- a landmark: from the loop back to the start
+abbrev start : tie.At-loop Inv-loop μ-loop → tie.Start Inv-loop μ-loop
+start c = c .before .before .before .before .before .before
+
 -- a pick is an index, whichever it is
 wide : (n : ℕ) → Fits w32 n → Fits w64 n
 wide n h = omega arith
@@ -37,23 +41,23 @@ cast-point-2 c = wide _ (c .shared-slice-known4 .given _)
 point-requires-2 : tie.Need-point-requires-2 Inv-loop μ-loop
 point-requires-2 c κs =
     let at = c .before .before in
-    let st = at .before .before .before .before .before in
-    st .before .pre .1 (at .loop .j) (c .before .loop-test .taken)
+    start at .pre .1 (at .loop .j) (c .before .loop-test .taken)
 
 loop-again : tie.Need-loop-again Inv-loop μ-loop
 unfolding unwrapped
 loop-again c =
-    let inside = c .before .before .before .before in
+    let point = c .before .before in
+    let inside = point .before .before in
     let at = inside .before in
-    let st = at .before .before .before .before .before .before in
+    let st = start at in
     let next = sum-more (st .args .cell) (st .args .xs .now) (at .before .wrap .result) (at .loop .sum) (st .args .picks .now) (at .loop .j) (inside .loop-test .taken) in
-    (search needs, rw (c .add .ensures, c .before .beside .ensures, c .before .before .point2 .ensures) (sym next ∙ at .loop .inv .1), at .loop .inv .2)
+    (search needs, rw (c .add .ensures, c .before .beside .ensures, point .point2 .ensures) (sym next ∙ at .loop .inv .1), at .loop .inv .2)
 
 returns : tie.Need-returns Inv-loop μ-loop
 unfolding centerOf
 returns c =
     let at = c .before .before .before in
-    let st = at .before .before .before .before .before .before in
+    let st = start at in
     let all = sym (sum-none (st .args .cell) (st .args .xs .now) (at .before .wrap .result) (at .loop .sum) (st .args .picks .now) (at .loop .j) (c .before .before .loop-test .left)) ∙ at .loop .inv .1 in
     c .wrap2 .ensures ∙ rw (c .before .divide .ensures, all, at .loop .inv .2)
 

@@ -5,14 +5,18 @@ use Rattle.pick_lists.proofs.CopyPicks.{copy-part, copy-some, copy-few, copy-at
 use Rattle.centers.proofs.copy_center.Statement.{statement}
 use Rattle.centers.proofs.copy_center.Tie as tie
 
+-- a landmark: from the slices' lengths back to the start
+abbrev start : tie.After-shared-slice-known3 → tie.Start
+start c = c .before .before .before
+
 copy-picks-requires : tie.Need-copy-picks-requires
 copy-picks-requires c κs =
-    let st = c .before .before .before in
+    let st = start c in
     copy-part _ _ _ (sound-lists _ _ _ (st .pre .0)) _ (st .pre .1)
 
 center-requires : tie.Need-center-requires
 center-requires c κs =
-    let st = c .before .before .before .before in
+    let st = start (c .before) in
     let l = sound-lists _ _ _ (st .pre .0) in
     rw (c .copy-picks .ensures) ((copy-some _ _ _ l _ (st .pre .1), copy-few _ _ _ l _ (st .pre .1)), copy-atoms _ _ _ l _ (st .pre .1))
 

@@ -16,13 +16,17 @@ Inv-loop cell xs starts picks centers₀ n i₀ centers i = (i ≤ n) × Writing
 abbrev μ-loop : tie.MeasureT-loop
 μ-loop cell xs starts picks centers₀ n i₀ centers i = n - i
 
+-- a landmark: from the slices' lengths back to the start
+abbrev start : tie.After-slice-known Inv-loop μ-loop → tie.Start Inv-loop μ-loop
+start c = c .before .before .before .before
+
 sub-n : tie.Need-sub-n Inv-loop μ-loop
 sub-n c =
-    let st = c .before .before .before .before in
+    let st = start c in
     omega (arith, sound-lists (st .args .xs .now) (st .args .starts .now) (st .args .picks .now) (st .pre .0) .number)
 
 loop-holds : tie.Need-loop-holds Inv-loop μ-loop
-loop-holds c = (search needs, writing-first _ _ (c .before .before .before .before .pre .1))
+loop-holds c = (search needs, writing-first _ _ (start c .pre .1))
 
 slice-write-centers-2 : tie.Need-slice-write-centers-2 Inv-loop μ-loop
 slice-write-centers-2 c = simp length-set (omega (arith, c .before .before .loop .inv .1 .same))

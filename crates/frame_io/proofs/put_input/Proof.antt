@@ -8,15 +8,18 @@ use borrow.Author.Needs.{needs}
 use Rattle.frame_io.proofs.put_input.Statement.{statement}
 use Rattle.frame_io.proofs.put_input.Tie as tie
 
+-- a landmark: from the text back to the start
+abbrev start : tie.After-put-text → tie.Start
+start c = c .before .before .before .before
+
 slice-aggregate-put-text : tie.Need-slice-aggregate-put-text
 slice-aggregate-put-text c = sym (length-take-le _ _ (search needs))
 
 returns : tie.Need-returns
 returns c =
-    let st = c .before .before .before .before in
     let w = c .put-text .ensures in (
       (w .0 .1, sym (length-take-le _ _ (w .0 .1))),
-      λ s h. let e = ap printed h ∙ printed-start (length (st .args .input .now)) s (st .pre .0) in (rw e at (w .0 .0), rw e at (w .1)),
+      λ s h. let e = ap printed h ∙ printed-start _ s (start c .pre .0) in (rw e at (w .0 .0), rw e at (w .1)),
     )
 
 pub put-input-spec : {M : Type 1} → statement M

@@ -8,7 +8,9 @@ use Rattle.frame_limits.proofs.bound_over.Tie as tie
 
 returns : tie.Need-returns
 unfolding boundOver anyOver
-returns c = rw (c .exceeds6 .ensures, c .before .exceeds5 .ensures, c .before .before .exceeds4 .ensures, c .before .before .before .exceeds3 .ensures, c .before .before .before .before .exceeds2 .ensures, c .before .before .before .before .before .exceeds .ensures, or-false)
+returns c =
+    let third = c .before .before .before in
+    rw (c .exceeds6 .ensures, c .before .exceeds5 .ensures, c .before .before .exceeds4 .ensures, third .exceeds3 .ensures, third .before .exceeds2 .ensures, third .before .before .exceeds .ensures, or-false)
 
 pub bound-over-spec : {M : Type 1} → statement M
 bound-over-spec =

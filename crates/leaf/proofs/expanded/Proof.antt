@@ -6,7 +6,10 @@ use Rattle.leaf.proofs.expanded.Tie as tie
 
 returns : tie.Need-returns
 unfolding expanded
-returns c = rw (c .before .before .before .before .smaller .ensures, c .before .before .smaller2 .ensures, c .smaller3 .ensures, c .before .before .before .before .before .before .extent .ensures)
+returns c =
+    let y = c .before .before in
+    let x = y .before .before in
+    rw (x .smaller .ensures, y .smaller2 .ensures, c .smaller3 .ensures, x .before .before .extent .ensures)
 
 pub expanded-spec : {M : Type 1} → statement M
 expanded-spec =

@@ -19,7 +19,9 @@ int-to-float-sqrt32 c = le→leb (c .before .before .before .args .centers) (2 ^
 
 returns-2 : tie.Need-returns-2
 unfolding partitionScore
-returns-2 c = rw (c .before .before .before .before .if1 .left, c .clamp .ensures, c .before .before .before .sqrt32 .ensures, c .before .sqrt322 .ensures)
+returns-2 c =
+    let root = c .before .before .before in
+    rw (root .before .if1 .left, c .clamp .ensures, root .sqrt32 .ensures, c .before .sqrt322 .ensures)
 
 pub partition-score-spec : {M : Type 1} → statement M
 partition-score-spec =

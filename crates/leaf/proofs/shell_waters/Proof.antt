@@ -20,8 +20,9 @@ loop-holds c = seeing-first
 
 loop-again : tie.Need-loop-again Inv-loop μ-loop
 loop-again c =
-    let at = c .before .before .before .before in
-    let less = c .before .before .before .loop-test .taken in
+    let turn = c .before .before .before in
+    let at = turn .before in
+    let less = turn .loop-test .taken in
     let p = c .before .before .point .ensures in
     let test = ap (inShell _ _) (sym p) ∙ sym (c .before .in-shell .ensures) in
     ⊎-elim

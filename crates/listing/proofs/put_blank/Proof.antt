@@ -15,9 +15,10 @@ returns c =
 
 returns-2 : tie.Need-returns-2
 returns-2 c =
-    let e = c .before .before .before .before .before in
+    let put = c .before .before in
+    let e = put .before .before .before in
     let out = e .before .before .args .out .now in
-    written false blankText out (le-ltb (length out) 6 (e .if1 .left)) (c .before .before .put-text .ensures)
+    written false blankText out (le-ltb (length out) 6 (e .if1 .left)) (put .put-text .ensures)
 
 pub put-blank-spec : {M : Type 1} → statement M
 put-blank-spec =

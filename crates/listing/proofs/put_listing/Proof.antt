@@ -15,6 +15,10 @@ use borrow.Author.Needs.{needs}
 use Rattle.listing.proofs.put_listing.Statement.{statement}
 use Rattle.listing.proofs.put_listing.Tie as tie
 
+-- landmark: from the head's size back to the start
+abbrev start : tie.After-head-size → tie.Start
+start c = c .before .before .before .before
+
 abbrev text : tie.Start → List ℕ
 text s =
     let a = s .args in
@@ -32,10 +36,11 @@ size s =
     length-listing (a .copies) (a .largest) (a .contacted) (a .pair) (a .dispersion) (a .nodes) (a .depth) (a .leaves .now) (a .count) (a .dry)
 
 -- past the third test the leaves are there and the text has room
-roomy : (c : tie.Else3) → let s = c .before .before .before .before .before .before .before in (s .args .count * 8 ≤ length (s .args .leaves .now)) × (length (text s) ≤ length (s .args .out .now))
+roomy : (c : tie.Else3) → let s = start (c .before .before .before) in (s .args .count * 8 ≤ length (s .args .leaves .now)) × (length (text s) ≤ length (s .args .out .now))
 roomy c =
-    let s = c .before .before .before .before .before .before .before in
-    let fits = leb-true (leaf-bytes s) (length (s .args .out .now) - c .before .before .before .head-size .result) (sym (c .before .leaves-fit .ensures) ∙ not-false _ (c .if3 .left)) in
+    let h = c .before .before .before in
+    let s = start h in
+    let fits = leb-true (leaf-bytes s) (length (s .args .out .now) - h .head-size .result) (sym (c .before .leaves-fit .ensures) ∙ not-false _ (c .if3 .left)) in
     (omega arith, omega (arith, fits, size s))
 
 returns : tie.Need-returns
@@ -45,13 +50,14 @@ returns c =
 
 returns-2 : tie.Need-returns-2
 returns-2 c =
-    let s = c .before .before .before .before .before in
+    let s = start (c .before) in
     cramped (missing s) (text s) (s .args .out .now) (rw (lt-ltb (length (s .args .out .now)) (length (text s)) (omega (arith, size s)), or-true))
 
 returns-3 : tie.Need-returns-3
 returns-3 c =
-    let s = c .before .before .before .before .before .before .before in
-    let over = leb-false (leaf-bytes s) (length (s .args .out .now) - c .before .before .before .head-size .result) (sym (c .before .leaves-fit .ensures) ∙ not-true _ (c .if3 .taken)) in
+    let h = c .before .before .before in
+    let s = start h in
+    let over = leb-false (leaf-bytes s) (length (s .args .out .now) - h .head-size .result) (sym (c .before .leaves-fit .ensures) ∙ not-true _ (c .if3 .taken)) in
     cramped (missing s) (text s) (s .args .out .now) (rw (lt-ltb (length (s .args .out .now)) (length (text s)) (omega (arith, over, size s)), or-true))
 
 put-lines-requires : tie.Need-put-lines-requires
@@ -59,15 +65,16 @@ put-lines-requires c κs = roomy (c .before)
 
 returns-4 : tie.Need-returns-4
 returns-4 c =
-    let e = c .before .before .before .before in
-    let s = e .before .before .before .before .before .before .before in
+    let put = c .before .before in
+    let e = put .before .before in
+    let s = start (e .before .before .before) in
     let room = roomy e in
     written
     (missing s)
     (text s)
     (s .args .out .now)
     (rw (le-ltb (length (s .args .leaves .now)) (s .args .count * 8) (room .0), le-ltb (length (s .args .out .now)) (length (text s)) (room .1)))
-    (c .before .before .put-lines .ensures)
+    (put .put-lines .ensures)
 
 pub put-listing-spec : {M : Type 1} → statement M
 put-listing-spec =

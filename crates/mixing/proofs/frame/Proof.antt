@@ -2,7 +2,7 @@
 -- the cores get what the tests establish, over the pick lists at the start of both tables (Tested). Assumes nothing.
 use mathlib.Core.Path.{_≡_, sym, ap, ap₂, _∙_}
 use mathlib.Core.Bool.{false}
-use mathlib.Core.List.{List, [], _∷_}
+use mathlib.Core.List.{List, []}
 use Prim.Native.Nat.{ℕ, _+_, _≤_}
 use native.Mathlib.Omega.{arith}
 use lib.ListN.{length, take}
@@ -13,9 +13,7 @@ use Rattle.cluster_table.specs.Fractions.{tableFractions}
 use Rattle.scan.specs.Scan.{scanned}
 use Rattle.dispersion.specs.Dispersion.{dispersionOf}
 use Rattle.pick_lists.specs.Input.{Input, given}
-use Rattle.octree.specs.Tree.{roomRefusal}
-use Rattle.tree.specs.Tree.{frameTree}
-use Rattle.report.specs.Report.{reportRoom, answerBy}
+use Rattle.report.specs.Inner.{coreAnswer}
 use Rattle.report.proofs.ReportOutcomes.{report-told}
 use Rattle.mixing.specs.Inner.{withReport}
 use Rattle.frame_tests.specs.Tests.{isBlank}
@@ -147,14 +145,12 @@ dispersed c =
 
 reports : (c : tie.After-report-of) →
     let st = first (tests (filled (scans (disperses (c .before) .before)))) in
-    c .report-of .result ≡ answerBy (roomNumber (frame-of st) (tables-of st)) (treeInput (frame-of st))
+    c .report-of .result ≡ coreAnswer (treeInput (frame-of st)) (tables-of st .tree) (st .args .leaves .now)
 reports c =
     let l = filled (scans (disperses (c .before) .before)) in
     let st = first (tests l) in
     let input : List ℕ → List ℕ → Input = given (st .args .cell) (st .args .solutes .now) (st .args .waters .now) in
-    let limit = reportRoom (tables-of st .tree) (st .args .leaves .now) in
-    c .report-of .ensures .0
-    ∙ (λ i. answerBy (firstRefusal (roomRefusal limit (frameTree (input (starts-are l i) (picks-are l i))) ∷ [])) (input (starts-are l i) (picks-are l i)))
+    c .report-of .ensures .0 ∙ (λ i. coreAnswer (input (starts-are l i) (picks-are l i)) (tables-of st .tree) (st .args .leaves .now))
 
 returns : tie.Need-returns
 unfolding limited

@@ -3,8 +3,22 @@ use borrow.Author.Needs.{needs}
 use Rattle.nodes.proofs.reset.Statement.{statement}
 use Rattle.nodes.proofs.reset.Tie as tie
 
+-- landmarks: from a place back to an earlier one
+abbrev records : tie.After-clear-floats → tie.After-clear-words
+records c = c .before .before .before .before
+
+abbrev waters : tie.After-clear-words → tie.After-count-up2
+waters c = c .before .before .before .before
+
+abbrev centers : tie.After-count-up2 → tie.After-count-up
+centers c = c .before .before .before .before
+
 returns : tie.Need-returns
-returns c = (c .before .before .before .before .before .before .before .before .before .before .before .before .before .before .count-up .ensures, (c .before .before .before .before .before .before .before .before .before .before .count-up2 .ensures, (c .before .before .before .before .before .before .clear-words .ensures, c .before .before .clear-floats .ensures)))
+returns c =
+    let boxes = c .before .before in
+    let r = records boxes in
+    let w = waters r in
+    (centers w .count-up .ensures, (w .count-up2 .ensures, (r .clear-words .ensures, boxes .clear-floats .ensures)))
 
 pub reset-spec : {M : Type 1} → statement M
 reset-spec =

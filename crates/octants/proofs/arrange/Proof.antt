@@ -7,24 +7,39 @@ use Rattle.octants.proofs.Sorting.{counts-sum, dealable, arranged}
 use Rattle.octants.proofs.arrange.Statement.{statement}
 use Rattle.octants.proofs.arrange.Tie as tie
 
+-- landmarks: from a place back to an earlier one
+abbrev start : tie.After-paste → tie.Start
+start c = c .before .before .before .before .before .before .before
+
+abbrev saved : tie.After-tally → tie.After-paste
+saved c = c .before .before .before .before .before .before
+
+abbrev tallied : tie.After-places → tie.After-tally
+tallied c = c .before .before .before .before
+
+abbrev placed : tie.After-deal-arg3 → tie.After-firsts
+placed c = c .before .before .before .before
+
 firsts-requires : tie.Need-firsts-requires
 firsts-requires c κs =
-    let g = c .before .before .before .before .before .before .before .before .before .before .before .before .before .before .before .before .before in
-    (omega (arith, counts-sum (c .before .before .before .before .tally .ensures), g .pre .few), refl)
+    let t = tallied c in
+    let g = start (saved t) in
+    (omega (arith, counts-sum (t .tally .ensures), g .pre .few), refl)
 
 deal-requires : tie.Need-deal-requires
 deal-requires c κs =
-    let f = c .before .before .before .before in
-    let t = f .before .before .before .before .before in
-    let p = t .before .before .before .before .before .before in
-    let g = p .before .before .before .before .before .before .before in
+    let f = placed c in
+    let t = tallied (f .before) in
+    let p = saved t in
+    let g = start p in
     dealable (t .tally .ensures) _ (p .paste .ensures) _ (f .firsts .ensures .0) (omega (arith, t .tally .kept .1 .1 .1 .0, g .pre .room-k)) (omega (arith, p .paste .kept .0, g .pre .room-s)) (f .firsts .ensures .1)
 
 returns : tie.Need-returns
 returns c =
-    let t = c .before .before .before .before .before .before .before .before .before .before .before .before in
-    let p = t .before .before .before .before .before .before in
-    arranged (t .tally .ensures) _ (p .paste .ensures) _ (c .before .before .deal .ensures)
+    let d = c .before .before in
+    let t = tallied (placed (d .before) .before) in
+    let p = saved t in
+    arranged (t .tally .ensures) _ (p .paste .ensures) _ (d .deal .ensures)
 
 pub arrange-spec : {M : Type 1} → statement M
 arrange-spec =

@@ -7,9 +7,13 @@ use Rattle.bounds.specs.Bounds.{octantAt}
 use Rattle.octants.proofs.octant.Statement.{statement}
 use Rattle.octants.proofs.octant.Tie as tie
 
+-- a landmark: from the last comparison back to the test that the point is in the list
+abbrev within : tie.After-above3 → tie.Then1
+within c = c .before .before .before .before .before .before
+
 returns : tie.Need-returns
 unfolding octantAt pointAt
-returns c = simp (lt-ltb _ _ (c .before .before .before .before .before .before .if1 .taken)) (cc)
+returns c = simp (lt-ltb _ _ (within c .if1 .taken)) (cc)
 
 returns-2 : tie.Need-returns-2
 unfolding octantAt pointAt

@@ -17,22 +17,31 @@ Inv-loop order points center codes₀ counts₀ i₀ codes counts i =
 abbrev μ-loop : tie.MeasureT-loop
 μ-loop order points center codes₀ counts₀ i₀ codes counts i = length order - i
 
+-- landmarks: from a place back to an earlier one
+abbrev start : tie.At-loop Inv-loop μ-loop → tie.Start Inv-loop μ-loop
+start c = c .before .before .before .before
+
+abbrev turn : tie.After-octant Inv-loop μ-loop → tie.At-loop Inv-loop μ-loop
+turn c = c .before .before .before
+
 small : (c : tie.After-octant Inv-loop μ-loop) → c .octant .result < 8
 small c =
-    let g = c .before .before .before .before .before .before .before .args in
-    omega (arith, c .octant .ensures, octant-small (g .points .now) (g .center) (getD (g .order .now) (c .before .before .before .loop .i) 0))
+    let g = start (turn c) .args in
+    omega (arith, c .octant .ensures, octant-small (g .points .now) (g .center) (getD (g .order .now) (turn c .loop .i) 0))
 
 add-counts : tie.Need-add-counts Inv-loop μ-loop
 add-counts c =
-    let a = c .before .before .before .before .before .loop in
-    let e = ap (λ (r : ℕ). getD (a .counts) r 0) (c .before .before .octant .ensures) in
-    omega (arith, e, count-small (a .inv .0) (c .before .before .before .before .loop-test .taken))
+    let o = c .before .before in
+    let a = turn o .loop in
+    let e = ap (λ (r : ℕ). getD (a .counts) r 0) (o .octant .ensures) in
+    omega (arith, e, count-small (a .inv .0) (o .before .before .loop-test .taken))
 
 loop-again : tie.Need-loop-again Inv-loop μ-loop
 loop-again c =
-    let a = c .before .before .before .before .before .loop in
-    let e = c .before .before .octant .ensures in (
-      tally-step (a .inv .0) (c .before .before .before .before .loop-test .taken) _ _ _ (search needs) (a .inv .2) e
+    let o = c .before .before in
+    let a = turn o .loop in
+    let e = o .octant .ensures in (
+      tally-step (a .inv .0) (o .before .before .loop-test .taken) _ _ _ (search needs) (a .inv .2) e
           (ap (λ (r : ℕ). getD (a .counts) r 0 + 1) e) (c .before .byte .ensures ∙ e),
       simp length-set (a .inv .1),
       simp length-set (a .inv .2),

@@ -12,14 +12,18 @@ use Rattle.base.specs.Limits.{maxAtoms}
 use Rattle.pick_lists.proofs.all_finite.Statement.{statement}
 use Rattle.pick_lists.proofs.all_finite.Tie as tie
 
+-- a landmark: from the test back to the start
+abbrev start : tie.After-coordinates-finite → tie.Start
+start c = c .before .before .before
+
 cast-all-named : tie.Need-cast-all-named
 cast-all-named c =
-    let st = c .before .before .before .before in
+    let st = start (c .before) in
     omega (arith, leb-true (length (st .args .xs .now)) (maxAtoms * 3) (and-eq-true-iff _ _ .0 (c .if1 .taken) .0))
 
 all-named-requires : tie.Need-all-named-requires
 all-named-requires c κs =
-    let st = c .before .before .before .before in
+    let st = start (c .before) in
     (refl, sym (c .before .coordinates-finite .ensures) ∙ and-eq-true-iff (leb (length (st .args .xs .now)) (maxAtoms * 3)) _ .0 (c .if1 .taken) .1)
 
 pub all-finite-spec : {M : Type 1} → statement M

@@ -26,7 +26,9 @@ shared-slice-read-result-2 c =
     omega (arith, starts-number (length (inside .before .before .args .starts .now)) (inside .if1 .left))
 
 cast-result : tie.Need-cast-result
-cast-result c = omega (arith, c .shared-slice-known3 .given (length (c .before .before .before .before .before .args .starts .now) - 1))
+cast-result c =
+    let inside = c .before .before .before in
+    omega (arith, c .shared-slice-known3 .given (length (inside .before .before .args .starts .now) - 1))
 
 returns-2 : tie.Need-returns-2
 returns-2 c =

@@ -20,13 +20,13 @@ loop-holds c = counting-first
 
 loop-again : tie.Need-loop-again Inv-loop μ-loop
 loop-again c =
-    let at = c .before .before .before .before in
-    let less = c .before .before .before .loop-test .taken in
+    let inside = c .before .before .before in
+    let less = inside .loop-test .taken in
     let p = c .before .before .point .ensures in
     let test = ap finitePoint (sym p) ∙ sym (c .before .is-finite .ensures) in
     ⊎-elim
-    (λ w. rw (w .1) (counting-finite less (test ∙ w .0 .taken) (at .loop .inv)))
-    (λ w. rw (w .1) (counting-other less (test ∙ w .0 .left) (at .loop .inv)))
+    (λ w. rw (w .1) (counting-finite less (test ∙ w .0 .taken) (inside .before .loop .inv)))
+    (λ w. rw (w .1) (counting-other less (test ∙ w .0 .left) (inside .before .loop .inv)))
     (c .if1 .came)
 
 returns : tie.Need-returns Inv-loop μ-loop

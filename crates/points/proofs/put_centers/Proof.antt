@@ -20,20 +20,28 @@ use Rattle.points.proofs.put_centers.Tie as tie
 abbrev input : tie.Start → Input
 input st = given (st .args .cell) (st .args .solutes .now) [] (st .args .starts .now) (st .args .picks .now)
 
+-- landmarks: from a place back to an earlier one
+abbrev start : tie.After-put-centers → tie.Start
+start c = c .before .before .before .before .before .before
+
+abbrev written : tie.After-wrap-all-arg → tie.After-put-centers
+written c = c .before .before .before
+
 sub-wrap-all : tie.Need-sub-wrap-all
 sub-wrap-all c =
-    let st = c .before .before .before .before .before .before .before .before .before in
+    let st = start (written c) in
     omega (arith, sound-lists (st .args .solutes .now) (st .args .starts .now) (st .args .picks .now) (st .pre .0) .number)
 
 returns : tie.Need-returns
 unfolding treeCenters
 returns c =
-    let put = c .before .before .before .before .before .before in
-    let st = put .before .before .before .before .before .before in
+    let wrap = c .before .before in
+    let put = written (wrap .before) in
+    let st = start put in
     let n = copies (st .args .starts .now) in
     let centers = centersOf (input st) in
     let size : length centers ≡ n * 3 = centers-length (input st) in
-    c .before .before .wrap-all .ensures
+    wrap .wrap-all .ensures
     ∙ ap (λ (l : List Float). over (wrapFrom (st .args .cell) l n 0) l) (put .put-centers .ensures)
     ∙ wrapped-over (st .args .cell) centers (st .args .out .now) n size
 

@@ -20,19 +20,23 @@ abbrev μ-loop : tie.MeasureT-loop
 loop-holds : tie.Need-loop-holds Inv-loop μ-loop
 loop-holds c = writing-first (c .before .before .pre)
 
+-- a landmark: from the test of a water back to its turn
+abbrev turn : tie.After-is-finite Inv-loop μ-loop → tie.At-loop Inv-loop μ-loop
+turn c = c .before .before .before
+
 slice-write-out-2 : tie.Need-slice-write-out-2 Inv-loop μ-loop
 slice-write-out-2 c =
-    let at = c .before .before .before .before .before in
+    let at = turn (c .before .before) in
     simp length-set (omega (arith, at .before .before .before .pre, at .loop .inv .filling .same, at .loop .inv .counting .few))
 
 slice-write-out-3 : tie.Need-slice-write-out-3 Inv-loop μ-loop
 slice-write-out-3 c =
-    let at = c .before .before .before .before .before in
+    let at = turn (c .before .before) in
     simp length-set (omega (arith, at .before .before .before .pre, at .loop .inv .filling .same, at .loop .inv .counting .few))
 
 loop-again : tie.Need-loop-again Inv-loop μ-loop
 loop-again c =
-    let at = c .before .before .before .before in
+    let at = turn (c .before) in
     let less = c .before .before .before .loop-test .taken in
     let p = c .before .before .point .ensures in
     let test = sym (c .before .is-finite .ensures) in

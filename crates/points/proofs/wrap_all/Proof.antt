@@ -17,16 +17,19 @@ abbrev μ-loop : tie.MeasureT-loop
 loop-holds : tie.Need-loop-holds Inv-loop μ-loop
 loop-holds c = wrapping-first (c .before .pre)
 
+-- a landmark: from a wrapped point back to its turn
+abbrev turn : tie.After-wrap Inv-loop μ-loop → tie.At-loop Inv-loop μ-loop
+turn c = c .before .before .before .before
+
 slice-write-xs-2 : tie.Need-slice-write-xs-2 Inv-loop μ-loop
-slice-write-xs-2 c = simp length-set (omega (arith, c .before .before .before .before .loop .inv .filling .same))
+slice-write-xs-2 c = simp length-set (omega (arith, turn c .loop .inv .filling .same))
 
 slice-write-xs-3 : tie.Need-slice-write-xs-3 Inv-loop μ-loop
-slice-write-xs-3 c = simp length-set (omega (arith, c .before .before .before .before .loop .inv .filling .same))
+slice-write-xs-3 c = simp length-set (omega (arith, turn c .loop .inv .filling .same))
 
 loop-again : tie.Need-loop-again Inv-loop μ-loop
 loop-again c =
-    let at = c .before .before .before .before in
-    rw (c .wrap .ensures, c .before .point .ensures) (wrapping-next (c .before .before .before .loop-test .taken) (at .loop .inv))
+    rw (c .wrap .ensures, c .before .point .ensures) (wrapping-next (c .before .before .before .loop-test .taken) (turn c .loop .inv))
 
 returns : tie.Need-returns Inv-loop μ-loop
 returns c = wrapping-last (c .loop-test .left) (c .before .loop .inv)

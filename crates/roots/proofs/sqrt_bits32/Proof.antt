@@ -12,6 +12,10 @@ use Rattle.floats.proofs.RootBits.{code-nan, code-zero, code-inf, code-finite, 
 use Rattle.roots.proofs.sqrt_bits32.Statement.{statement}
 use Rattle.roots.proofs.sqrt_bits32.Tie as tie
 
+-- past the third test, back to the start
+abbrev start : tie.Else3 → tie.Start
+start c = c .before .before .before
+
 returns : tie.Need-returns
 returns c = code-zero binary32 (c .before .args .b) (c .before .fits .b .fits) (c .if1 .taken)
 
@@ -22,12 +26,12 @@ returns-3 : tie.Need-returns-3
 returns-3 c = nan32 ∙ code-minus binary32 (c .before .before .before .args .b) (c .if3 .taken) (c .before .before .if1 .left)
 
 returns-4 : tie.Need-returns-4
-returns-4 c = code-inf binary32 (c .before .before .before .before .args .b) (c .if4 .taken) (omega arith)
+returns-4 c = code-inf binary32 (start (c .before) .args .b) (c .if4 .taken) (omega arith)
 
 -- above zero and finite, after the four tests
-finite : (c : tie.Else4) → (0 < c .before .before .before .before .args .b) × (c .before .before .before .before .args .b < 2139095040)
+finite : (c : tie.Else4) → (0 < start (c .before) .args .b) × (start (c .before) .args .b < 2139095040)
 finite c =
-    code-finite binary32 (c .before .before .before .before .args .b) (c .before .before .before .if1 .left) (c .before .before .if2 .left)
+    code-finite binary32 (start (c .before) .args .b) (c .before .before .before .if1 .left) (c .before .before .if2 .left)
     (c .if4 .left) (omega arith)
 
 -- the digits shifted up, with nothing lost
@@ -45,15 +49,15 @@ normal-up b = ap (λ (k : ℕ). k * 536870912 % 18446744073709551616) (lead-is b
 
 -- ---- a subnormal number
 cast-root-of : tie.Need-cast-root-of
-cast-root-of c = omega (arith, fraction-is binary32 (c .before .before .before .before .before .args .b))
+cast-root-of c = omega (arith, fraction-is binary32 (start (c .before .before) .args .b))
 
 root-of-requires : tie.Need-root-of-requires
-root-of-requires c κs = omega (arith, low-up (c .before .before .before .before .before .args .b), finite (c .before))
+root-of-requires c κs = omega (arith, low-up (start (c .before .before) .args .b), finite (c .before))
 
 subnormal : (c : tie.After-root-of)
-    → Packed binary32 (c .before .before .before .before .before .before .args .b) (c .root-of .result .exponent) (c .root-of .result .digits)
+    → Packed binary32 (start (c .before .before .before) .args .b) (c .root-of .result .exponent) (c .root-of .result .digits)
 subnormal c =
-    let b = c .before .before .before .before .before .before .args .b in
+    let b = start (c .before .before .before) .args .b in
     let r = c .root-of in
     low-packed binary32 b (r .result .exponent) (r .result .digits) (bitAnd b 8388607 * 536870912 % 18446744073709551616) 29 120 (low-up b) refl
     (r .ensures) (finite (c .before .before) .0) (c .before .if5 .taken)
@@ -69,15 +73,15 @@ returns-5 c = subnormal (c .before .before) .0
 
 -- ---- a normal number
 cast-root-of-2 : tie.Need-cast-root-of-2
-cast-root-of-2 c = omega (arith, lead-is binary32 (c .before .before .before .before .before .args .b))
+cast-root-of-2 c = omega (arith, lead-is binary32 (start (c .before .before) .args .b))
 
 root-of-requires-2 : tie.Need-root-of-requires-2
-root-of-requires-2 c κs = omega (arith, normal-up (c .before .before .before .before .before .args .b), finite (c .before))
+root-of-requires-2 c κs = omega (arith, normal-up (start (c .before .before) .args .b), finite (c .before))
 
 normal : (c : tie.After-root-of2)
-    → Packed binary32 (c .before .before .before .before .before .before .args .b) (c .root-of2 .result .exponent) (c .root-of2 .result .digits)
+    → Packed binary32 (start (c .before .before .before) .args .b) (c .root-of2 .result .exponent) (c .root-of2 .result .digits)
 normal c =
-    let b = c .before .before .before .before .before .before .args .b in
+    let b = start (c .before .before .before) .args .b in
     let r = c .root-of2 in
     let z = finite (c .before .before) .1 in
     normal-packed binary32 b (r .result .exponent) (r .result .digits) (bitOr (bitAnd b 8388607) 8388608 * 536870912 % 18446744073709551616) 29

@@ -12,6 +12,10 @@ use Rattle.floats.proofs.RootBits.{code-nan, code-zero, code-inf, code-finite, 
 use Rattle.roots.proofs.sqrt_bits64.Statement.{statement}
 use Rattle.roots.proofs.sqrt_bits64.Tie as tie
 
+-- past the third test, back to the start
+abbrev start : tie.Else3 → tie.Start
+start c = c .before .before .before
+
 returns : tie.Need-returns
 returns c = code-zero binary64 (c .before .args .b) (c .before .fits .b .fits) (c .if1 .taken)
 
@@ -22,22 +26,22 @@ returns-3 : tie.Need-returns-3
 returns-3 c = nan64 ∙ code-minus binary64 (c .before .before .before .args .b) (c .if3 .taken) (c .before .before .if1 .left)
 
 returns-4 : tie.Need-returns-4
-returns-4 c = code-inf binary64 (c .before .before .before .before .args .b) (c .if4 .taken) (omega arith)
+returns-4 c = code-inf binary64 (start (c .before) .args .b) (c .if4 .taken) (omega arith)
 
 -- above zero and finite, after the four tests
-finite : (c : tie.Else4) → (0 < c .before .before .before .before .args .b) × (c .before .before .before .before .args .b < 9218868437227405312)
+finite : (c : tie.Else4) → (0 < start (c .before) .args .b) × (start (c .before) .args .b < 9218868437227405312)
 finite c =
-    code-finite binary64 (c .before .before .before .before .args .b) (c .before .before .before .if1 .left) (c .before .before .if2 .left)
+    code-finite binary64 (start (c .before) .args .b) (c .before .before .before .if1 .left) (c .before .before .if2 .left)
     (c .if4 .left) (omega arith)
 
 -- ---- a subnormal number
 root-of-requires : tie.Need-root-of-requires
-root-of-requires c κs = omega (arith, fraction-is binary64 (c .before .before .before .before .before .args .b), finite (c .before))
+root-of-requires c κs = omega (arith, fraction-is binary64 (start (c .before .before) .args .b), finite (c .before))
 
 subnormal : (c : tie.After-root-of)
-    → Packed binary64 (c .before .before .before .before .before .before .args .b) (c .root-of .result .exponent) (c .root-of .result .digits)
+    → Packed binary64 (start (c .before .before .before) .args .b) (c .root-of .result .exponent) (c .root-of .result .digits)
 subnormal c =
-    let b = c .before .before .before .before .before .before .args .b in
+    let b = start (c .before .before .before) .args .b in
     let r = c .root-of in
     low-packed binary64 b (r .result .exponent) (r .result .digits) (bitAnd b 4503599627370495) 0 1074
     (fraction-is binary64 b ∙ sym (mul-one (b % 4503599627370496))) refl (r .ensures) (finite (c .before .before) .0) (c .before .if5 .taken)
@@ -50,12 +54,12 @@ returns-5 c = subnormal (c .before .before) .0
 
 -- ---- a normal number
 root-of-requires-2 : tie.Need-root-of-requires-2
-root-of-requires-2 c κs = omega (arith, lead-is binary64 (c .before .before .before .before .before .args .b), finite (c .before))
+root-of-requires-2 c κs = omega (arith, lead-is binary64 (start (c .before .before) .args .b), finite (c .before))
 
 normal : (c : tie.After-root-of2)
-    → Packed binary64 (c .before .before .before .before .before .before .args .b) (c .root-of2 .result .exponent) (c .root-of2 .result .digits)
+    → Packed binary64 (start (c .before .before .before) .args .b) (c .root-of2 .result .exponent) (c .root-of2 .result .digits)
 normal c =
-    let b = c .before .before .before .before .before .before .args .b in
+    let b = start (c .before .before .before) .args .b in
     let r = c .root-of2 in
     let z = finite (c .before .before) .1 in
     normal-packed binary64 b (r .result .exponent) (r .result .digits) (bitOr (bitAnd b 4503599627370495) 4503599627370496) 0

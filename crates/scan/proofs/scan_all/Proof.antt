@@ -1,4 +1,4 @@
--- `scan::scan_all` meets its contract: the box table is filled once, and every row scanned with it. Assumes nothing.
+-- `scan::scan_all` meets its contract: the span table is filled once, and every row scanned with it. Assumes nothing.
 use native.Mathlib.Omega.{arith}
 use Rattle.clusters.proofs.Accepted.{accepted-sound, accepted-lists}
 use borrow.Author.Needs.{needs}

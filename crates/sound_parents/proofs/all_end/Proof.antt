@@ -21,6 +21,10 @@ Inv-loop parent seen₀ i₀ seen i =
 abbrev μ-loop : tie.MeasureT-loop
 μ-loop parent seen₀ i₀ seen i = length parent - i
 
+-- a landmark: from the call back to the turn of the loop that it is in
+abbrev turn : tie.After-ends Inv-loop μ-loop → tie.In-loop Inv-loop μ-loop
+turn c = c .before .before
+
 loop-holds : tie.Need-loop-holds Inv-loop μ-loop
 loop-holds c =
     let st = c .before .before in
@@ -37,8 +41,9 @@ ends-requires c κs =
 
 returns : tie.Need-returns Inv-loop μ-loop
 returns c =
-    let e = c .before .before .before .ends .ensures in
-    sym (all-false _ _ _ (c .before .before .before .before .before .loop-test .taken) (sym (e .0) ∙ not-true _ (c .if1 .taken)))
+    let call = c .before .before .before in
+    let e = call .ends .ensures in
+    sym (all-false _ _ _ (turn call .loop-test .taken) (sym (e .0) ∙ not-true _ (c .if1 .taken)))
 
 add-i : tie.Need-add-i Inv-loop μ-loop
 add-i c = omega arith
@@ -48,8 +53,9 @@ loop-less c = omega arith
 
 loop-again : tie.Need-loop-again Inv-loop μ-loop
 loop-again c =
-    let b = c .before .before .before .before .before .before in
-    let e = c .before .before .before .ends .ensures in
+    let call = c .before .before .before in
+    let b = turn call .before in
+    let e = call .ends .ensures in
     (omega arith, search needs, e .1 (not-false _ (c .if1 .left)), below-more _ _ (b .loop .inv .3) (sym (e .0) ∙ not-false _ (c .if1 .left)))
 
 same-length-2 : tie.Need-same-length-2 Inv-loop μ-loop

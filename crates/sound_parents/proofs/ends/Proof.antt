@@ -17,6 +17,10 @@ Inv-loop parent seen₀ i k₀ seen k = (length seen ≡ length seen₀) × Clim
 abbrev μ-loop : tie.MeasureT-loop
 μ-loop parent seen₀ i k₀ seen k = count (length parent) (λ c. eqb (getD seen c 0) 0)
 
+-- a landmark: from past the first test back to the turn of the loop
+abbrev turn : tie.Then1 Inv-loop μ-loop → tie.At-loop Inv-loop μ-loop
+turn c = c .before .before
+
 loop-holds : tie.Need-loop-holds Inv-loop μ-loop
 loop-holds c = (refl, climb-first (c .pre .1 .0 .0) (c .pre .1 .1))
 
@@ -51,11 +55,11 @@ shared-slice-read-if2 : tie.Need-shared-slice-read-if2 Inv-loop μ-loop
 shared-slice-read-if2 c = omega arith
 
 same-length : tie.Need-same-length Inv-loop μ-loop
-same-length c = simp length-set (c .before .before .before .before .loop .inv .0)
+same-length c = simp length-set (turn (c .before .before) .loop .inv .0)
 
 returns : tie.Need-returns Inv-loop μ-loop
 returns c =
-    let b = c .before .before .before .before in
+    let b = turn (c .before .before) in
     climb-root (closed-of _ (b .before .pre .0)) (b .before .pre .1 .0 .0) (omega (arith, b .loop .inv .0)) (b .loop .inv .1) (c .if2 .taken)
 
 cast-k : tie.Need-cast-k Inv-loop μ-loop
@@ -69,12 +73,12 @@ shared-slice-read-k c = omega arith
 
 loop-less : tie.Need-loop-less Inv-loop μ-loop
 loop-less c =
-    let b = c .before .before .before .before .before in
+    let b = turn (c .before .before .before) in
     climb-less (omega (arith, b .loop .inv .0, b .before .pre .1 .0 .1)) (b .loop .inv .1) (c .before .before .before .if1 .taken)
 
 loop-again : tie.Need-loop-again Inv-loop μ-loop
 loop-again c =
-    let b = c .before .before .before .before .before in (
+    let b = turn (c .before .before .before) in (
       simp length-set (b .loop .inv .0),
       climb-next (omega (arith, b .loop .inv .0)) (b .loop .inv .1) (closed-of _ (b .before .pre .0)) (c .before .if2 .left),
     )

@@ -11,6 +11,10 @@ use Rattle.sound_parents.proofs.Climbs.{stamped-none}
 use Rattle.sound_parents.proofs.is_sound.Statement.{statement}
 use Rattle.sound_parents.proofs.is_sound.Tie as tie
 
+-- a landmark: from the stamps back to past the first test
+abbrev below : tie.After-seen → tie.Else1
+below c = c .before .before .before
+
 returns : tie.Need-returns
 returns c = sound-not _ (sym (c .before .all-below .ensures) ∙ not-true _ (c .if1 .taken))
 
@@ -26,13 +30,13 @@ returns-2 c =
 
 all-end-requires : tie.Need-all-end-requires
 all-end-requires c κs =
-    let b = c .before .before .before in
+    let b = below c in
     let st = b .before .before .before in
     (sym (b .before .all-below .ensures) ∙ not-false _ (b .if1 .left), ((st .pre, st .pre), stamped-none _ maxCopies (st .pre)))
 
 returns-3 : tie.Need-returns-3
 returns-3 c =
-    let b = c .before .before .before .before .before in
+    let b = below (c .before .before) in
     c .before .all-end .ensures ∙ sound-rest _ (sym (b .before .all-below .ensures) ∙ not-false _ (b .if1 .left))
 
 pub is-sound-spec : {M : Type 1} → statement M

@@ -9,22 +9,26 @@ use Rattle.spans.specs.Inner.{spanOf}
 use Rattle.span_table.proofs.copies_touch.Statement.{statement}
 use Rattle.span_table.proofs.copies_touch.Tie as tie
 
+-- a landmark: from where the lists are known back to the start
+abbrev start : tie.After-shared-slice-known4 → tie.Start
+start c = c .before .before .before .before
+
 sub-n : tie.Need-sub-n
-sub-n c = omega (arith, sound-lists _ _ _ (c .before .before .before .before .pre .0) .number)
+sub-n c = omega (arith, sound-lists _ _ _ (start c .pre .0) .number)
 
 copy-picks-requires : tie.Need-copy-picks-requires
-copy-picks-requires c κs = let s = c .before .before .before .before in copy-part _ _ _ (sound-lists _ _ _ (s .pre .0)) _ (s .pre .1 .1 .1 .0)
+copy-picks-requires c κs = let s = start c in copy-part _ _ _ (sound-lists _ _ _ (s .pre .0)) _ (s .pre .1 .1 .1 .0)
 
 copy-picks-requires-2 : tie.Need-copy-picks-requires-2
-copy-picks-requires-2 c κs = let s = c .before .before .before .before .before in copy-part _ _ _ (sound-lists _ _ _ (s .pre .0)) _ (s .pre .1 .1 .1 .1)
+copy-picks-requires-2 c κs = let s = start (c .before) in copy-part _ _ _ (sound-lists _ _ _ (s .pre .0)) _ (s .pre .1 .1 .1 .1)
 
 span-at-requires : tie.Need-span-at-requires
-span-at-requires c κs = let s = c .before .before .before .before .before .before in (sound-lists _ _ _ (s .pre .0) .few, s .pre .1 .1 .1 .1, s .pre .1 .1 .1 .2)
+span-at-requires c κs = let s = start (c .before .before) in (sound-lists _ _ _ (s .pre .0) .few, s .pre .1 .1 .1 .1, s .pre .1 .1 .1 .2)
 
 lists-touch-requires : tie.Need-lists-touch-requires
 unfolding finiteAtom
 lists-touch-requires c κs =
-    let s = c .before .before .before .before .before .before .before in
+    let s = start (c .before .before .before) in
     let i = s .pre .1 .1 .1 .0 in
     let j = s .pre .1 .1 .1 .1 in
     let l = sound-lists _ _ _ (s .pre .0) in (

@@ -18,18 +18,22 @@ Inv-loop xs starts picks table₀ at axis n i₀ table i = Filled (λ m. leastOf
 abbrev μ-loop : tie.MeasureT-loop
 μ-loop xs starts picks table₀ at axis n i₀ table i = n - i
 
+-- a landmark: from before the loop back to the start
+abbrev start : tie.After-slice-known Inv-loop μ-loop → tie.Start Inv-loop μ-loop
+start c = c .before .before .before .before
+
 sub-n : tie.Need-sub-n Inv-loop μ-loop
-sub-n c = omega (arith, sound-lists _ _ _ (c .before .before .before .before .pre .0) .number)
+sub-n c = omega (arith, sound-lists _ _ _ (start c .pre .0) .number)
 
 loop-holds : tie.Need-loop-holds Inv-loop μ-loop
 loop-holds c = filled-none _ _ _ _ _
 
 copy-picks-requires : tie.Need-copy-picks-requires Inv-loop μ-loop
-copy-picks-requires c κs = let st = c .before .before .before .before .before .before in copy-part _ _ _ (sound-lists _ _ _ (st .pre .0)) _ (c .loop-test .taken)
+copy-picks-requires c κs = let st = start (c .before .before) in copy-part _ _ _ (sound-lists _ _ _ (st .pre .0)) _ (c .loop-test .taken)
 
 ends-of-requires : tie.Need-ends-of-requires Inv-loop μ-loop
 ends-of-requires c κs =
-    let st = c .before .before .before .before .before .before .before in
+    let st = start (c .before .before .before) in
     let ls = sound-lists _ _ _ (st .pre .0) in
     let l = c .before .loop-test .taken in
     ((rw (c .copy-picks .ensures) (copy-some _ _ _ ls _ l), st .pre .1 .0), rw (c .copy-picks .ensures) (copy-atoms _ _ _ ls _ l))
@@ -42,11 +46,12 @@ slice-write-table-2 c = simp length-set (omega (arith, c .before .before .before
 
 loop-again : tie.Need-loop-again Inv-loop μ-loop
 loop-again c =
-    let st = c .before .before .before .before .before .before .before .before in
-    filled-next _ _ _ _ _ _ _ _ _ (st .pre .1 .1) (c .before .before .loop-test .taken)
+    let turn = c .before .before in
+    let st = start (turn .before .before) in
+    filled-next _ _ _ _ _ _ _ _ _ (st .pre .1 .1) (turn .loop-test .taken)
     (c .ends-of .ensures .0 ∙ ap (leastOf (st .args .xs .now) (st .args .axis)) (c .before .copy-picks .ensures))
     (c .ends-of .ensures .1 ∙ ap (greatestOf (st .args .xs .now) (st .args .axis)) (c .before .copy-picks .ensures))
-    (c .before .before .before .loop .inv)
+    (turn .before .loop .inv)
 
 same-length : tie.Need-same-length Inv-loop μ-loop
 same-length c = c .before .loop .inv .same

@@ -7,14 +7,26 @@ use borrow.Author.Needs.{needs}
 use Rattle.span_table.proofs.fill_spans.Statement.{statement}
 use Rattle.span_table.proofs.fill_spans.Tie as tie
 
+-- landmarks: from a place back to an earlier one
+abbrev start : tie.After-slice-known → tie.Start
+start c = c .before .before .before .before
+
+abbrev x-filled : tie.After-fill-axis2 → tie.After-fill-axis
+x-filled c = c .before .before .before .before
+
+abbrev y-filled : tie.After-fill-axis3 → tie.After-fill-axis2
+y-filled c = c .before .before .before .before
+
 sub-n : tie.Need-sub-n
-sub-n c = omega (arith, sound-lists _ _ _ (c .before .before .before .before .pre .0) .number)
+sub-n c = omega (arith, sound-lists _ _ _ (start c .pre .0) .number)
 
 returns : tie.Need-returns
 returns c =
-    let x = c .before .before .before .before .before .before .before .before .before .before .fill-axis .ensures in
-    let y = c .before .before .before .before .before .before .fill-axis2 .ensures in
-    let z = c .before .before .fill-axis3 .ensures in (
+    let third = c .before .before in
+    let second = y-filled third in
+    let x = x-filled second .fill-axis .ensures in
+    let y = second .fill-axis2 .ensures in
+    let z = third .fill-axis3 .ensures in (
       λ i l.
           six _ _ _ _ _
           (z .1 .1 .0 _ (omega arith) ∙ y .1 .1 .0 _ (omega arith) ∙ x .0 i l)

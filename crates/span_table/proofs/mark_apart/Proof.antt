@@ -16,14 +16,19 @@ Inv-loop g table flags₀ n i b j₀ flags j = Marked g table n i flags₀ j fla
 abbrev μ-loop : tie.MeasureT-loop
 μ-loop g table flags₀ n i b j₀ flags j = n - j
 
+-- a landmark: from before the loop back to the start
+abbrev start : tie.After-span-at Inv-loop μ-loop → tie.Start Inv-loop μ-loop
+start c = c .before .before .before
+
 loop-holds : tie.Need-loop-holds Inv-loop μ-loop
-loop-holds c = let st = c .before .before .before in marked-first _ _ _ _ _ (st .pre .1) (st .pre .3)
+loop-holds c = let st = start c in marked-first _ _ _ _ _ (st .pre .1) (st .pre .3)
 
 loop-again : tie.Need-loop-again Inv-loop μ-loop
 loop-again c =
-    let at = c .before .before .before .before in
-    let flag = c .word .ensures ∙ ap (λ (b : Bool). cond b 1 0) (c .before .apart .ensures ∙ ap₂ (λ (b d : Span). apartOf (at .before .before .before .before .args .g) b d) (at .before .span-at .ensures) (c .before .before .span-at2 .ensures)) in
-    marked-next _ _ _ _ _ _ _ _ (c .before .before .before .loop-test .taken) flag (at .loop .inv)
+    let turn = c .before .before .before in
+    let at = turn .before in
+    let flag = c .word .ensures ∙ ap (λ (b : Bool). cond b 1 0) (c .before .apart .ensures ∙ ap₂ (λ (b d : Span). apartOf (start (at .before) .args .g) b d) (at .before .span-at .ensures) (c .before .before .span-at2 .ensures)) in
+    marked-next _ _ _ _ _ _ _ _ (turn .loop-test .taken) flag (at .loop .inv)
 
 same-length : tie.Need-same-length Inv-loop μ-loop
 same-length c = c .before .loop .inv .same

@@ -10,7 +10,7 @@ put-word-requires c κs = rw (c .before .to-bits32 .ensures) (c .before .before 
 
 returns : tie.Need-returns
 unfolding hexBits
-returns c = rw (c .before .before .before .before .to-bits32 .ensures) at (c .before .before .put-word .ensures)
+returns c = let put = c .before .before in rw (put .before .before .to-bits32 .ensures) at (put .put-word .ensures)
 
 pub put-bits-spec : {M : Type 1} → statement M
 put-bits-spec = tie.close (tie.spec (λ c κs. search needs) put-word-requires (λ c. search needs) returns)

@@ -16,16 +16,16 @@ unfolding occupancy
 wet w e = rw (ne-eqb w 0 e)
 
 put-text-requires : tie.Need-put-text-requires
-put-text-requires c κs = rw (dry _ (c .before .before .if1 .taken)) at (c .before .before .before .before .pre)
+put-text-requires c κs = let empty = c .before .before in rw (dry _ (empty .if1 .taken)) at (empty .before .before .pre)
 
 returns : tie.Need-returns
-returns c = rw (dry _ (c .before .before .before .before .before .if1 .taken)) (c .before .before .put-text .ensures)
+returns c = let put = c .before .before in rw (dry _ (put .before .before .before .if1 .taken)) (put .put-text .ensures)
 
 put-word-requires : tie.Need-put-word-requires
 put-word-requires c κs = rw (wet _ (c .before .if1 .left)) at (c .before .before .before .pre)
 
 returns-2 : tie.Need-returns-2
-returns-2 c = rw (wet _ (c .before .before .before .before .if1 .left)) (c .before .before .put-word .ensures)
+returns-2 c = let put = c .before .before in rw (wet _ (put .before .before .if1 .left)) (put .put-word .ensures)
 
 pub put-occupancy-spec : {M : Type 1} → statement M
 put-occupancy-spec =

@@ -6,22 +6,26 @@ use Rattle.text.proofs.Writing.{digits-after, length-after}
 use Rattle.text.proofs.put_word.Statement.{statement}
 use Rattle.text.proofs.put_word.Tie as tie
 
+-- a landmark: from the call for the digits back to the start
+abbrev start : tie.After-put-digits-arg → tie.Start
+start c = c .before .before
+
 put-digits-requires : tie.Need-put-digits-requires
 unfolding hex
 put-digits-requires c κs =
-    let a = c .before .before .args in
+    let a = start c .args in
     omega (arith, length-after 16 8 (a .w) (a .after))
 
 slice-write-out : tie.Need-slice-write-out
 unfolding hex
 slice-write-out c =
-    let a = c .before .before .before .before .before .args in
+    let a = start (c .before .before .before) .args in
     omega (arith, length-after 16 8 (a .w) (a .after))
 
 returns : tie.Need-returns
 unfolding hex
 returns c =
-    let a = c .before .before .before .before .before .args in
+    let a = start (c .before .before .before) .args in
     let d = c .before .before .put-digits .ensures in
     let n = length-after 16 8 (a .w) (a .after) in
     (omega (arith, n), rw (d .0, d .1) (digits-after 16 8 (a .w) (a .after) (a .at) (a .out .now) (omega (arith, n))))

@@ -26,6 +26,10 @@ Inv-loop2 parent₀ i root k₀ parent k = Turn parent₀ i root parent k
 abbrev μ-loop2 : tie.MeasureT-loop2
 μ-loop2 parent₀ i root k₀ parent k = depth parent₀ k
 
+-- a landmark: from the end of the first loop back to its turn
+abbrev searched : tie.Else1 Inv-loop μ-loop Inv-loop2 μ-loop2 → tie.At-loop Inv-loop μ-loop Inv-loop2 μ-loop2
+searched c = c .before .before
+
 -- the list at entry is sound
 sound-entry : (c : tie.At-loop Inv-loop μ-loop Inv-loop2 μ-loop2) → Sound (c .before .args .parent .now)
 sound-entry c = sound-parents (c .before .args .parent .now) .0 (c .before .pre .0)
@@ -68,7 +72,7 @@ loop-again c =
 
 loop2-holds : tie.Need-loop2-holds Inv-loop μ-loop Inv-loop2 μ-loop2
 loop2-holds c =
-    let b = c .before .before in
+    let b = searched c in
     rw (root-found b (c .if1 .left)) (turn-first _ _ (sound-entry b) (b .before .pre .1))
 
 cast-if2 : tie.Need-cast-if2 Inv-loop μ-loop Inv-loop2 μ-loop2
@@ -103,7 +107,8 @@ loop2-less c = turn-less (c .before .before .before .loop2 .inv) (c .before .if2
 
 loop2-again : tie.Need-loop2-again Inv-loop μ-loop Inv-loop2 μ-loop2
 loop2-again c =
-    turn-next (sound-entry (c .before .before .before .before .before .before)) (c .before .before .before .loop2 .inv) (c .before .if2 .taken)
+    let b = c .before .before .before in
+    turn-next (sound-entry (searched (b .before))) (b .loop2 .inv) (c .before .if2 .taken)
 
 same-length : tie.Need-same-length Inv-loop μ-loop Inv-loop2 μ-loop2
 same-length c = c .before .before .loop2 .inv .same
@@ -111,7 +116,7 @@ same-length c = c .before .before .loop2 .inv .same
 returns : tie.Need-returns Inv-loop μ-loop Inv-loop2 μ-loop2
 returns c =
     let f = c .before .before .before in
-    (root-found (f .before .before) (f .if1 .left), turn-last (c .before .before .loop2 .inv) (c .if2 .left))
+    (root-found (searched f) (f .if1 .left), turn-last (c .before .before .loop2 .inv) (c .if2 .left))
 
 pub find-root-spec : {M : Type 1} → statement M
 find-root-spec =

@@ -17,28 +17,38 @@ Inv-loop p₀ sizes₀ most₀ i₀ p sizes most i = (length sizes ≡ length si
 abbrev μ-loop : tie.MeasureT-loop
 μ-loop p₀ sizes₀ most₀ i₀ p sizes most i = length p₀ - i
 
+-- landmarks: from a place back to an earlier one
+abbrev start : tie.At-loop Inv-loop μ-loop → tie.Start Inv-loop μ-loop
+start c = c .before .before .before
+
+abbrev turn : tie.After-find-root Inv-loop μ-loop → tie.At-loop Inv-loop μ-loop
+turn c = c .before .before .before
+
+abbrev found : tie.After-slice-known4 Inv-loop μ-loop → tie.After-find-root Inv-loop μ-loop
+found c = c .before .before .before
+
 -- the list at entry is sound
-sound-entry : (b : tie.At-loop Inv-loop μ-loop) → Sound (b .before .before .before .args .p .now)
-sound-entry b = sound-parents (b .before .before .before .args .p .now) .0 (b .before .before .before .pre .0 .0)
+sound-entry : (b : tie.At-loop Inv-loop μ-loop) → Sound (start b .args .p .now)
+sound-entry b = sound-parents (start b .args .p .now) .0 (start b .pre .0 .0)
 
 -- and as long as the list that the search has left
-below : (b : tie.At-loop Inv-loop μ-loop) → b .loop .i < length (b .loop .p) → b .loop .i < length (b .before .before .before .args .p .now)
+below : (b : tie.At-loop Inv-loop μ-loop) → b .loop .i < length (b .loop .p) → b .loop .i < length (start b .args .p .now)
 below b l = omega (arith, b .loop .inv .1 .keeps .same)
 
 -- there is a size for each copy
-wide : (b : tie.At-loop Inv-loop μ-loop) → length (b .before .before .before .args .p .now) ≤ length (b .loop .sizes)
-wide b = omega (arith, b .loop .inv .0, b .before .before .before .pre .0 .2)
+wide : (b : tie.At-loop Inv-loop μ-loop) → length (start b .args .p .now) ≤ length (b .loop .sizes)
+wide b = omega (arith, b .loop .inv .0, start b .pre .0 .2)
 
 -- and for the root that the search finds it is at most the number of copies counted
-size-there : (f : tie.After-find-root Inv-loop μ-loop) → f .find-root .result < length (f .before .before .before .loop .sizes)
+size-there : (f : tie.After-find-root Inv-loop μ-loop) → f .find-root .result < length (turn f .loop .sizes)
 size-there f =
-    let b = f .before .before .before in
+    let b = turn f in
     omega (arith, wide b, tally-below (sound-entry b) (below b (f .before .before .loop-test .taken)) (b .loop .inv .1) _ (f .find-root .ensures .0))
 
 size-few : (f : tie.After-find-root Inv-loop μ-loop)
-    → getD (f .before .before .before .loop .sizes) (f .find-root .result) 0 ≤ f .before .before .before .loop .i
+    → getD (turn f .loop .sizes) (f .find-root .result) 0 ≤ turn f .loop .i
 size-few f =
-    let b = f .before .before .before in
+    let b = turn f in
     tally-few (sound-entry b) (below b (f .before .before .loop-test .taken)) (b .loop .inv .1) _ (f .find-root .ensures .0)
 
 loop-holds : tie.Need-loop-holds Inv-loop μ-loop
@@ -61,12 +71,12 @@ mul-size : tie.Need-mul-size Inv-loop μ-loop
 mul-size c = omega arith
 
 slice-read-size : tie.Need-slice-read-size Inv-loop μ-loop
-slice-read-size c = size-there (c .before .before .before)
+slice-read-size c = size-there (found c)
 
 add-size : tie.Need-add-size Inv-loop μ-loop
 add-size c =
-    let f = c .before .before .before in
-    omega (arith, below (f .before .before .before) (f .before .before .loop-test .taken), size-few f)
+    let f = found c in
+    omega (arith, below (turn f) (f .before .before .loop-test .taken), size-few f)
 
 cast-sizes : tie.Need-cast-sizes Inv-loop μ-loop
 cast-sizes c = omega arith
@@ -75,7 +85,7 @@ mul-sizes : tie.Need-mul-sizes Inv-loop μ-loop
 mul-sizes c = omega arith
 
 slice-write-sizes : tie.Need-slice-write-sizes Inv-loop μ-loop
-slice-write-sizes c = size-there (c .before .before .before)
+slice-write-sizes c = size-there (found c)
 
 add-i : tie.Need-add-i Inv-loop μ-loop
 add-i c = omega arith
@@ -85,8 +95,8 @@ loop-less c = omega arith
 
 loop-again : tie.Need-loop-again Inv-loop μ-loop
 loop-again c =
-    let f = c .before .before .before .before in
-    let b = f .before .before .before in (
+    let f = found (c .before) in
+    let b = turn f in (
       simp length-set (b .loop .inv .0),
       rw (f .find-root .ensures .1)
           (tally-next (sound-entry b) (below b (f .before .before .loop-test .taken)) (b .loop .inv .1) (f .find-root .result) (f .find-root .ensures .0) _ refl

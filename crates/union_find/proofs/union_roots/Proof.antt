@@ -7,10 +7,18 @@ use Rattle.union_find.proofs.Joins.{sound-first, length-first, roots-be
 use Rattle.union_find.proofs.union_roots.Statement.{statement}
 use Rattle.union_find.proofs.union_roots.Tie as tie
 
+-- landmarks: from a place back to an earlier one
+abbrev start : tie.After-find-root → tie.Start
+start c = c .before .before .before
+
+abbrev first : tie.After-find-root2 → tie.After-find-root
+first c = c .before .before .before .before
+
 find-root-requires-2 : tie.Need-find-root-requires-2
 find-root-requires-2 c κs =
-    let st = c .before .before .before .before .before .before in
-    let e = c .before .before .before .find-root .ensures .1 in (
+    let f = c .before .before .before in
+    let st = start f in
+    let e = f .find-root .ensures .1 in (
       rw e (sound-first _ _ _ (st .pre .0) (st .pre .1) (st .pre .2)),
       rw (e, length-first _ _ _ (st .pre .0) (st .pre .1) (st .pre .2)) (omega (arith, st .pre .1, st .pre .2)),
     )
@@ -18,8 +26,8 @@ find-root-requires-2 c κs =
 slice-write-parent : tie.Need-slice-write-parent
 slice-write-parent c =
     let g = c .before .before .before in
-    let f = g .before .before .before .before in
-    let st = f .before .before .before in
+    let f = first g in
+    let st = start f in
     let h =
     roots-below _ _ _ (st .pre .0) (st .pre .1) (st .pre .2) (f .find-root .ensures .0) (f .find-root .ensures .1) (g .find-root2 .ensures .0)
     (g .find-root2 .ensures .1) in
@@ -31,16 +39,16 @@ same-length c = simp length-set (search needs)
 returns : tie.Need-returns
 returns c =
     let g = c .before .before .before in
-    let f = g .before .before .before .before in
-    let st = f .before .before .before in
+    let f = first g in
+    let st = start f in
     join-apart _ _ _ (st .pre .0) (st .pre .1) (st .pre .2) (f .find-root .ensures .0) (f .find-root .ensures .1) (g .find-root2 .ensures .0)
     (g .find-root2 .ensures .1) (c .if1 .taken)
 
 returns-2 : tie.Need-returns-2
 returns-2 c =
     let g = c .before .before .before in
-    let f = g .before .before .before .before in
-    let st = f .before .before .before in
+    let f = first g in
+    let st = start f in
     join-same _ _ _ (st .pre .0) (st .pre .1) (st .pre .2) (f .find-root .ensures .0) (f .find-root .ensures .1) (g .find-root2 .ensures .0)
     (g .find-root2 .ensures .1) (c .if1 .left)
 

@@ -38,9 +38,10 @@ loop-less c = omega arith
 
 loop-again : tie.Need-loop-again Inv-loop μ-loop
 loop-again c =
-    let lo = c .before .before .before .before .before in
+    let put = c .before .before in
+    let lo = put .before .before .before in
     let a = lo .before .before .before .args in
-    let line = c .before .before .put-leaf .ensures in (
+    let line = put .put-leaf .ensures in (
       omega arith,
       omega arith,
       rw (line .0, line .1) (filling-append (leafLine (a .leaves .now) (lo .loop .p)) (rw (leaves-more (a .leaves .now) (a .count) (lo .loop .i) (lo .loop .p) (omega arith)) at (lo .loop .inv .2))),

@@ -5,9 +5,13 @@ use borrow.Author.Needs.{needs}
 use Rattle.listing.proofs.sizes.leaf_size.Statement.{statement}
 use Rattle.listing.proofs.sizes.leaf_size.Tie as tie
 
+-- landmark: from the last count back to the start
+abbrev start : tie.After-occupancy-size2 → tie.Start
+start c = c .before .before .before .before .before .before .before .before .before
+
 returns : tie.Need-returns
 returns c =
-    let a = c .before .before .before .before .before .before .before .before .before .args in
+    let a = start c .args in
     omega (arith, length-leaf (a .leaves .now) (a .p))
 
 pub leaf-size-spec : {M : Type 1} → statement M

@@ -41,17 +41,19 @@ shift-nearest-requires-2 c κs = omega (arith, lead-is binary64 (c .before .befo
 
 low-kept-le : (c : tie.After-shift-nearest2) → c .shift-nearest2 .result ≤ 16777216
 low-kept-le c =
-    let s = c .before .before .before .before in
-    narrow-low-le (s .args .n) (s .pre) (c .shift-nearest2 .result) (c .shift-nearest2 .ensures) (c .before .if3 .taken) (c .before .before .if2 .left)
+    let e = c .before .before in
+    let s = e .before .before in
+    narrow-low-le (s .args .n) (s .pre) (c .shift-nearest2 .result) (c .shift-nearest2 .ensures) (c .before .if3 .taken) (e .if2 .left)
 
 cast-result-2 : tie.Need-cast-result-2
 cast-result-2 c = omega (arith, low-kept-le c)
 
 returns-3 : tie.Need-returns-3
 returns-3 c =
-    let s = c .before .before .before .before in
+    let e = c .before .before in
+    let s = e .before .before in
     let r = c .shift-nearest2 in
-    (narrow-low (s .args .n) (s .pre) (r .result) (r .ensures) (c .before .if3 .taken) (c .before .before .if2 .left), omega (arith, low-kept-le c))
+    (narrow-low (s .args .n) (s .pre) (r .result) (r .ensures) (c .before .if3 .taken) (e .if2 .left), omega (arith, low-kept-le c))
 
 returns-4 : tie.Need-returns-4
 returns-4 c = (narrow-zero (c .before .before .before .args .n) (c .before .before .before .pre) (c .if3 .left), lit≤ tt)

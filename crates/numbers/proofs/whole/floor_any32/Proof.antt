@@ -24,17 +24,15 @@ truncating-f32-to-u64-requires c κs = in-range 23 (c .before .before .args .x) 
 int-to-float-result : tie.Need-int-to-float-result
 int-to-float-result c =
     let r = c .before .truncating-f32-to-u64 in
-    in-float (r .result) (omega (
-      arith,
-      cut-lt 23 (c .before .before .before .before .args .x) (lit≤ tt) (small-plus (c .before .before)) (r .result)
-          (r .ensures),
-    ))
+    let k = c .before .before in
+    in-float (r .result) (omega (arith, cut-lt 23 (k .before .before .args .x) (lit≤ tt) (small-plus k) (r .result) (r .ensures)))
 
 returns : tie.Need-returns
 returns c =
     let r = c .before .truncating-f32-to-u64 in
-    let x = c .before .before .before .before .args .x in
-    let s = small-plus (c .before .before) in
+    let k = c .before .before in
+    let x = k .before .before .args .x in
+    let s = small-plus k in
     floor-plus x (r .result) (s .0) (cut-is 23 x (lit≤ tt) s (r .result) (r .ensures))
 
 returns-2 : tie.Need-returns-2

@@ -47,8 +47,9 @@ int-to-float-result c = in-float _ (omega (arith, below (c .before)))
 returns : tie.Need-returns
 returns c =
     let r = c .before .truncating-f32-to-u64 in
-    let k = c .before .before .before .before in
-    let s = small-plus (c .before .before) in
+    let e = c .before .before in
+    let k = e .before .before in
+    let s = small-plus e in
     round-plus (k .args .x) ((r .result + 1) / 2) (s .0) (half-is (k .args .x) (held k) s (r .result) (r .ensures))
 
 returns-2 : tie.Need-returns-2
