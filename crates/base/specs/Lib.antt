@@ -1,7 +1,7 @@
 -- What every crate's definitions rest on.
 -- a lent slice at the start of a call
 pub mod Entry
--- document 01's limits on numbers
+-- the limits on numbers
 pub mod Limits
 -- tables after a call
 pub mod Tables

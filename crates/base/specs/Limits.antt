@@ -1,4 +1,4 @@
--- Document 01, 'Answers by operation': the limits on numbers. Definitions only. Assumes nothing.
+-- docs/RULES.md, 'Limits': how many atoms, indices, copies and picks there may be. Definitions only. Assumes nothing.
 use Prim.Native.Nat.{ℕ}
 
 -- solute atoms, and waters

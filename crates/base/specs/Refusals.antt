@@ -1,4 +1,4 @@
--- Document 01, 'Answers by operation': a refusal is given on its condition and only then, the first in the call's order, as its
+-- docs/RULES.md, 'Answers by operation': a refusal is given on its condition and only then, the first in the call's order, as its
 -- number alone. A call's refusals are one list, in that order. Definitions only. Assumes nothing.
 use Prim.Native.Nat.{ℕ}
 use mathlib.Core.Bool.{Bool, cond}

@@ -1,4 +1,4 @@
--- Document 01, 'Answers by operation': what a lent table holds after a call wrote to it. Entries past what an answer needs keep their
+-- docs/RULES.md, 'Answers by operation': what a lent table holds after a call wrote to it. Entries past what an answer needs keep their
 -- values, and a refusal changes no table. Definitions only. Assumes nothing.
 use Prim.Native.Nat.{ℕ, zero, suc, _+_}
 use mathlib.Core.List.{List, [], _∷_, _++_}

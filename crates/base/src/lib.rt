@@ -1,4 +1,4 @@
-// What every crate rests on: the limits on numbers (document 01, 'Answers by operation'), what a call that writes tables alone answers, and
+// What every crate rests on: the limits on numbers (docs/RULES.md, 'Limits'), what a call that writes tables alone answers, and
 // numbers as words and as indices.
 ghost use mathlib.Core.Path.{_≡_};
 ghost use Prim.Native.Nat.{_<_, _^_, min as minOf, max as maxOf};

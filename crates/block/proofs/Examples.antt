@@ -1,4 +1,4 @@
--- Document 01's listed frame as a block, read by the definitions, and blocks that are none: `checked`, one statement for the lot.
+-- The listed frame (docs/RULES.md) as a block, read by the definitions, and blocks that are none: `checked`, one statement for the lot.
 -- Assumes nothing.
 use mathlib.Core.Path.{_≡_, refl}
 use mathlib.Core.Bool.{true, false}

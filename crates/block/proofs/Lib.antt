@@ -5,5 +5,5 @@ pub mod Header
 pub mod Reading
 -- the answer and the tables that read_block owes, by its refusal
 pub mod Answers
--- document 01's listed frame as a block, as the definitions read it
+-- the listed frame (docs/RULES.md) as a block, as the definitions read it
 pub mod Examples

@@ -1,4 +1,4 @@
--- Document 01, program `frame`: the block of bytes that holds a frame, and what its reader answers and leaves in the lent tables.
+-- docs/RULES.md, program `frame`: the block of bytes that holds a frame, and what its reader answers and leaves in the lent tables.
 -- A byte past the end counts as 0 in a word; no such word is read of a block. Definitions only. Assumes nothing.
 use Prim.Native.Nat.{ℕ, zero, suc, _+_, _*_}
 use mathlib.Core.Bool.{Bool, not, _&&_, _||_}

@@ -1,4 +1,4 @@
-// The block of bytes that holds a frame (document 01, program `frame`): the header is tested before a table is written, so that
+// The block of bytes that holds a frame (docs/RULES.md, program `frame`): the header is tested before a table is written, so that
 // no count in it leads outside, and a refusal changes nothing.
 ghost use mathlib.Core.Path.{_≡_};
 ghost use Prim.Native.Nat.{_+_, _*_, _^_, _<_, _≤_};

@@ -1,4 +1,4 @@
--- Document 01, program `frame`: what it prints for the bytes that it read, `refused` and the number, or `blank`, or the listing.
+-- docs/RULES.md, program `frame`: what it prints for the bytes that it read, `refused` and the number, or `blank`, or the listing.
 -- Definitions only. Assumes nothing.
 use Prim.Native.Nat.{ℕ, _+_, _*_}
 use mathlib.Core.Bool.{cond}

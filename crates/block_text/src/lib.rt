@@ -1,4 +1,4 @@
-// The text that program `frame` prints for a block (document 01): the block is read, the whole frame worked out, and its answer listed.
+// The text that program `frame` prints for a block (docs/RULES.md): the block is read, the whole frame worked out, and its answer listed.
 // Beside what `frame_text` keeps on its stack there are the tables of the block, about 180,000 bytes.
 ghost use mathlib.Core.Path.{_≡_};
 ghost use mathlib.Core.Bool.{false};

@@ -1,4 +1,4 @@
--- Document 01, 'Octree': a box carries low, high, center and extent as floats; octant bits 0, 1, 2 are x, y, z above the box's
+-- docs/RULES.md, 'Octree': a box carries low, high, center and extent as floats; octant bits 0, 1, 2 are x, y, z above the box's
 -- center, strictly. Lengths are in angstrom. Every f32 operation rounds once, left to right. Definitions only. Assumes nothing.
 use mathlib.Core.Bool.{Bool, cond, _||_}
 use mathlib.Core.List.{List}

@@ -1,4 +1,4 @@
-// Boxes (document 01, 'Octree'): low, high, center and extent as floats, by value.
+// Boxes (docs/RULES.md, 'Octree'): low, high, center and extent as floats, by value.
 use cell::Cell;
 use cell::Vec3;
 ghost use mathlib.Core.Path.{_≡_};

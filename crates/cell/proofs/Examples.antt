@@ -1,4 +1,4 @@
--- Document 01's checked frames that the cell alone answers, worked out by the definitions: `checked`, one statement for the lot.
+-- The checked frames (docs/RULES.md) that the cell alone answers, worked out by the definitions: `checked`, one statement for the lot.
 -- Points and cells are alike on the three axes and given by an axis's f32 bits. Assumes nothing.
 use mathlib.Core.Path.{_≡_, refl}
 use mathlib.Core.Bool.{true, false}

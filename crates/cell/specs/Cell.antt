@@ -1,4 +1,4 @@
--- Document 01, 'Cell': extent, validity, wrap, minimum image, squared distance, volume. Lengths are in angstrom.
+-- docs/RULES.md, 'Cell': extent, validity, wrap, minimum image, squared distance, volume. Lengths are in angstrom.
 -- Every f32 operation rounds once, left to right. Definitions only. Assumes nothing.
 use mathlib.Core.Bool.{Bool, _&&_}
 use mathlib.Core.List.{List}

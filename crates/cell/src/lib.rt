@@ -1,4 +1,4 @@
-// The cell of a frame and the geometry in it (document 01, 'Cell'): extent, validity, wrap, minimum image, squared
+// The cell of a frame and the geometry in it (docs/RULES.md, 'Cell'): extent, validity, wrap, minimum image, squared
 // distance, volume. Lengths are in angstrom. Every f32 operation rounds once, left to right.
 ghost use mathlib.Core.Path.{_≡_};
 ghost use mathlib.Core.Bool.{true};

@@ -1,4 +1,4 @@
--- Document 01, 'Centers and dispersion' and Centers: anchor = wrap(first pick); sum from 0 of anchor + min_image(pick - anchor);
+-- docs/RULES.md, 'Centers and dispersion' and Centers: anchor = wrap(first pick); sum from 0 of anchor + min_image(pick - anchor);
 -- center = wrap(sum / picks). Every f32 operation rounds once, left to right. Definitions only. Assumes nothing.
 use Prim.Native.Nat.{ℕ, zero, suc, _+_, _*_}
 use mathlib.Core.List.{List, [], _∷_, _++_}

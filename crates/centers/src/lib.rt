@@ -1,4 +1,4 @@
-// Centers of copies (document 01, 'Centers and dispersion'; the Rust's `solute_mol_center(s)`). f32 arithmetic, each operation rounded once.
+// Centers of copies (docs/RULES.md, 'Centers and dispersion'; the Rust's `solute_mol_center(s)`). f32 arithmetic, each operation rounded once.
 ghost use mathlib.Core.Path.{_≡_};
 ghost use mathlib.Core.Bool.{true};
 ghost use mathlib.Core.List.{[]};

@@ -1,4 +1,4 @@
--- Document 01, Close: the Rust's three fractions of a cluster table. Definitions only. Assumes nothing.
+-- docs/RULES.md, Close: the Rust's three fractions of a cluster table. Definitions only. Assumes nothing.
 use mathlib.Core.Bool.{cond}
 use mathlib.Core.List.{List}
 use Prim.Native.Nat.{ℕ, _-_}

@@ -1,4 +1,4 @@
--- Document 01, 'Clusters': the cluster table, one list of words: copies n, contacts, then n parents, n degrees, n marks.
+-- docs/RULES.md, 'Clusters': the cluster table, one list of words: copies n, contacts, then n parents, n degrees, n marks.
 -- Definitions only. Assumes nothing.
 use mathlib.Core.Bool.{Bool, _&&_}
 use mathlib.Core.List.{List, _∷_, _++_}

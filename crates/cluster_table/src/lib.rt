@@ -1,4 +1,4 @@
-// The cluster table (document 01, 'Clusters'), one lent list of words: copies n, contacts, then n parents, n degrees, n marks. Here it is opened
+// The cluster table (docs/RULES.md, 'Clusters'), one lent list of words: copies n, contacts, then n parents, n degrees, n marks. Here it is opened
 // and tested, gets its contacts and marks, and gives its fractions. A function asks for what it needs and tests none of it: the calls that do
 // are Open, Row and Close of `clusters`.
 ghost use mathlib.Core.Path.{_≡_};

@@ -1,4 +1,4 @@
--- The order rule (document 01, demand 3). By induction on the list of calls: each call keeps the table equal to the graph of the rows
+-- The order rule (docs/RULES.md). By induction on the list of calls: each call keeps the table equal to the graph of the rows
 -- accepted so far, so at each point of the list every call answers by that graph. Assumes nothing.
 use mathlib.Core.Path.{_≡_, refl, sym, ap, _∙_, subst}
 use mathlib.Core.Bool.{Bool, true, false, true≢false, cond, not, _||_, or-assoc, or-false}

@@ -1,4 +1,4 @@
--- Document 01, 'Answers by operation': Open, Row and Close, by what they answer and the table that they leave.
+-- docs/RULES.md, 'Answers by operation': Open, Row and Close, by what they answer and the table that they leave.
 -- Definitions only. Assumes nothing.
 use mathlib.Core.Bool.{Bool, cond, not}
 use mathlib.Core.List.{List, [], _∷_, _++_}

@@ -1,4 +1,4 @@
--- Document 01, 'The order rule': graphs on the copies 0 .. n - 1, chains, clusters, degrees and contacts, with no table in sight.
+-- docs/RULES.md, 'The order rule': graphs on the copies 0 .. n - 1, chains, clusters, degrees and contacts, with no table in sight.
 -- A graph is a test: `g i j` says that there is a contact of i and j, i < j. Definitions only. Assumes nothing.
 use mathlib.Core.Path.{_≡_}
 use mathlib.Core.Bool.{Bool, true, _||_, _&&_}

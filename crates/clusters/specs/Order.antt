@@ -1,4 +1,4 @@
--- Document 01, 'The order rule' (demand 3): one claim about any list of calls on one opened cluster table.
+-- docs/RULES.md, 'The order rule': one claim about any list of calls on one opened cluster table.
 -- Definitions only. Assumes nothing.
 use mathlib.Core.Path.{_≡_}
 use mathlib.Core.Bool.{Bool, true, false, not, _&&_, _||_}

@@ -1,4 +1,4 @@
-// Clusters of touching copies (document 01, 'Clusters'): Open, Row and Close over a lent cluster table (crate `cluster_table`). A scan may
+// Clusters of touching copies (docs/RULES.md, 'Clusters'): Open, Row and Close over a lent cluster table (crate `cluster_table`). A scan may
 // be split over several jobs: whatever order the rows come in, Close gives one answer (the order rule, specs/Order.antt).
 ghost use mathlib.Core.Path.{_≡_};
 ghost use mathlib.Core.Bool.{true};

@@ -1,4 +1,4 @@
--- Document 01's checked frames on this layer, worked out by the definitions: `checked`, one statement for the lot. Floats are given by their bits. Assumes nothing.
+-- The checked frames (docs/RULES.md) on this layer, worked out by the definitions: `checked`, one statement for the lot. Floats are given by their bits. Assumes nothing.
 use mathlib.Core.Path.{_≡_, refl}
 use mathlib.Core.List.{List, [], _∷_}
 use Prim.Native.Nat.{ℕ}

@@ -9,5 +9,5 @@ pub mod Answers
 pub mod PlainValues
 -- within the limits that a call tests the score is a number from 0 to 1
 pub mod ScoreRange
--- document 01's checked frames on this layer, as the definitions compute them
+-- the checked frames (docs/RULES.md) on this layer, as the definitions compute them
 pub mod Examples

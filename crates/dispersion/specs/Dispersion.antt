@@ -1,4 +1,4 @@
--- Document 01, 'Centers and dispersion' and Dispersion. Definitions only. Assumes nothing.
+-- docs/RULES.md, 'Centers and dispersion' and Dispersion. Definitions only. Assumes nothing.
 use Prim.Native.Nat.{ℕ, zero, suc, _+_, _-_, _*_, _/_}
 use mathlib.Core.Bool.{cond}
 use mathlib.Core.List.{List, [], _∷_}

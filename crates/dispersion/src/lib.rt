@@ -1,4 +1,4 @@
-// How evenly the centers of copies are spread (document 01, 'Centers and dispersion'; the Rust's `solute_center_dispersion_score`).
+// How evenly the centers of copies are spread (docs/RULES.md, 'Centers and dispersion'; the Rust's `solute_center_dispersion_score`).
 // f32 arithmetic, each operation rounded once; squared distances are summed in f64.
 ghost use mathlib.Core.Path.{_≡_};
 ghost use mathlib.Core.Bool.{true};

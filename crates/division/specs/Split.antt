@@ -1,4 +1,4 @@
--- Document 01, 'Octree': when a node splits. Definitions only. Assumes nothing.
+-- docs/RULES.md, 'Octree': when a node splits. Definitions only. Assumes nothing.
 use mathlib.Core.Bool.{Bool, _&&_}
 use mathlib.Core.List.{List}
 use Prim.Native.Nat.{ℕ}

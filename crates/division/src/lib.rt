@@ -1,4 +1,4 @@
-// Whether a node splits, and its two order lists divided (document 01, 'Octree'): arranged by octant, each octant's points counted.
+// Whether a node splits, and its two order lists divided (docs/RULES.md, 'Octree'): arranged by octant, each octant's points counted.
 // `divide` tests nothing of its lists; its caller does.
 use bounds::OctreeBounds;
 use octants::arrange;

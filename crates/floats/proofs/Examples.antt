@@ -18,7 +18,7 @@ use Rattle.floats.proofs.Standard.{standard}
 on : Format → Format → (Float → Float) → ℕ → ℕ
 on f h g b = toBits h (g (ofBits f b))
 
--- document 01: the f32 root of 2 is 3FB504F3. Then 1, 4, the smallest value, the largest, -0, infinity, -infinity, -1, a NaN and 0.1
+-- the f32 root of 2 is 3FB504F3. Then 1, 4, the smallest value, the largest, -0, infinity, -infinity, -1, a NaN and 0.1
 roots32 : map (on binary32 binary32 (sqrtOf binary32))
     (0x40000000 ∷ 0x3f800000 ∷ 0x40800000 ∷ 0x00000001 ∷ 0x7f7fffff ∷ 0x80000000 ∷ 0x7f800000 ∷ 0xff800000 ∷ 0xbf800000 ∷ 0x7fc00001 ∷ 0x3dcccccd ∷ [])
     ≡ 0x3fb504f3 ∷ 0x3f800000 ∷ 0x40000000 ∷ 0x1a3504f3 ∷ 0x5f7fffff ∷ 0x80000000 ∷ 0x7f800000 ∷ 0x7fc00000 ∷ 0x7fc00000 ∷ 0x7fc00000 ∷ 0x3ea1e89b ∷ []

@@ -1,4 +1,4 @@
--- Document 01, 'Numbers': f64 to f32, ties to even. f32 to f64 is exact, so it needs no definition: the value is the same.
+-- docs/RULES.md, 'Numbers': f64 to f32, ties to even. f32 to f64 is exact, so it needs no definition: the value is the same.
 -- Definitions only. Assumes nothing.
 use Prim.Native.Nat.{_*_}
 use lib.Ieee.{Float, nan, inf, fin, Format, up, down, round}

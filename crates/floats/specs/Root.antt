@@ -1,4 +1,4 @@
--- Document 01, 'Numbers': the square root, correctly rounded. In units of the format's smallest value 2 ^ -low, the root of x is
+-- docs/RULES.md, 'Numbers': the square root, correctly rounded. In units of the format's smallest value 2 ^ -low, the root of x is
 -- the plain root of a natural number, so the definition has no cases on the exponent.
 -- Definitions only. Assumes nothing.
 use Prim.Native.Nat.{ℕ, zero, suc, _+_, _-_, _*_, _/_, _^_}

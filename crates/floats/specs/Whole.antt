@@ -1,4 +1,4 @@
--- Document 01, 'Numbers': floor, and round with halves away from zero, a zero result taking the argument's sign.
+-- docs/RULES.md, 'Numbers': floor, and round with halves away from zero, a zero result taking the argument's sign.
 -- A value is `fin s m e`: m * 2 ^ e, negative where s is true; 2 ^ e is the fraction `up e` / `down e`.
 -- Definitions only. Assumes nothing.
 use Prim.Native.Nat.{ℕ, suc, _+_, _*_, _/_, _%_}

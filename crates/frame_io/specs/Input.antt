@@ -1,4 +1,4 @@
--- Document 01, program `frame`: the input that a buffer holds, and its text. Definitions only. Assumes nothing.
+-- docs/RULES.md, program `frame`: the input that a buffer holds, and its text. Definitions only. Assumes nothing.
 use mathlib.Core.Path.{_≡_}
 use mathlib.Core.List.{List}
 use Prim.Native.Nat.{ℕ}

@@ -1,4 +1,4 @@
-// What program `frame` does (document 01): reads one block from standard input and prints `refused` and the number, `blank`, or the
+// What program `frame` does (docs/RULES.md): reads one block from standard input and prints `refused` and the number, `blank`, or the
 // listing. No contract can say which bytes are read or written; `put_input` promises the text of whatever input was read.
 ghost use Prim.Native.Nat.{_≤_, _<_};
 ghost use lib.ListN.{length};

@@ -1,4 +1,4 @@
--- Within the limits every distance is finite (document 01, 'Cell'): where a call's tests of its cell and coordinates refuse nothing, every wrapped point, every
+-- Within the limits every distance is finite (docs/RULES.md, 'Cell'): where a call's tests of its cell and coordinates refuse nothing, every wrapped point, every
 -- minimum image and every squared distance of finite atoms is finite. The bounds are 2 ^ 16 at most, the sides above 2 ^ -23 and 2 ^ 17 at most, and a finite atom's
 -- coordinates 2 ^ 20 at most; the laws of `Finite` do the rest. A bound that is not finite needs no test of its own: its extent is then not finite. Assumes nothing.
 use mathlib.Core.Path.{_≡_, refl, sym, subst}

@@ -1,4 +1,4 @@
--- Document 01, 'Answers by operation': the limits, and the refusals 1, 2, 3, 4 and 15, which ask only for a call's lists and cell.
+-- docs/RULES.md, 'Limits' and 'Answers by operation': the limits, and the refusals 1, 2, 3, 4 and 15, which ask only for a call's lists and cell.
 -- A call that takes no waters or no indices has the empty list in their place. Definitions only. Assumes nothing.
 use Prim.Native.Nat.{ℕ, _*_, _%_}
 use mathlib.Core.Bool.{Bool, false, not, _&&_, _||_}

@@ -1,4 +1,4 @@
-// The limits of a frame (document 01, 'Answers by operation') and the refusals 1, 2, 3, 4 and 15. A call that takes no
+// The limits of a frame (docs/RULES.md, 'Limits') and the refusals 1, 2, 3, 4 and 15. A call that takes no
 // waters or no indices hands over an empty list in their place.
 use base::MAX_ATOMS;
 use base::MAX_INDICES;

@@ -1,4 +1,4 @@
--- Document 01, 'Whole frame': the condition of blank, and 5, 6, 7, for what a frame was counted to have. In which order they are asked is in crate
+-- docs/RULES.md, 'Whole frame': the condition of blank, and 5, 6, 7, for what a frame was counted to have. In which order they are asked is in crate
 -- `mixing` (`frameRefusal`, `frameAnswer`). Definitions only. Assumes nothing.
 use Prim.Native.Nat.{ℕ, _+_}
 use mathlib.Core.Bool.{Bool, not, _||_}

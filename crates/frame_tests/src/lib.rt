@@ -1,4 +1,4 @@
-// What the whole frame tests, after 1, 2, 3 and 4, before it writes anything (document 01, 'Whole frame'): blank, then 5, 6 and 7. The order of all
+// What the whole frame tests, after 1, 2, 3 and 4, before it writes anything (docs/RULES.md, 'Whole frame'): blank, then 5, 6 and 7. The order of all
 // its refusals is crate `mixing`'s.
 ghost use mathlib.Core.Path.{_≡_};
 ghost use Rattle.base.specs.Entry.{old};

@@ -1,4 +1,4 @@
-// The text that program `frame` prints for a frame that was read (document 01): the whole frame is worked out in tables of the program's
+// The text that program `frame` prints for a frame that was read (docs/RULES.md): the whole frame is worked out in tables of the program's
 // sizes, and its answer listed. Beside what the whole frame keeps on its stack there are these tables, about 350,000 bytes.
 ghost use mathlib.Core.Path.{_≡_};
 ghost use mathlib.Core.Bool.{false};

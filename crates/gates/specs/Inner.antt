@@ -1,4 +1,4 @@
--- Gates: separations on one axis that alone keep two points from being near (document 01, 'Touch'). Lengths are in angstrom.
+-- Gates: separations on one axis that alone keep two points from being near (docs/RULES.md, 'Touch'). Lengths are in angstrom.
 -- Definitions only. Assumes nothing.
 use mathlib.Core.Bool.{Bool, not, cond, _&&_}
 use mathlib.Core.List.{List}

@@ -1,5 +1,5 @@
 // Gates: exact rejection of separations on one axis. Where an axis of extent e has the gate from r to u, every separation from r to u, and
-// from -u to -r, has a minimum image whose square is above the cutoff's, so that two points with it are not near (document 01, 'Touch').
+// from -u to -r, has a minimum image whose square is above the cutoff's, so that two points with it are not near (docs/RULES.md, 'Touch').
 // A gate is tested once, at its ends, with the very functions of the definition; no error is estimated. Lengths are in angstrom.
 ghost use mathlib.Core.Path.{_≡_};
 ghost use mathlib.Core.Bool.{true};

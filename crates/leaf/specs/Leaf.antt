@@ -1,4 +1,4 @@
--- Document 01, 'Leaf report': shell, density, occupancy and partition score of a leaf. Lengths are in angstrom.
+-- docs/RULES.md, 'Leaf report': shell, density, occupancy and partition score of a leaf. Lengths are in angstrom.
 -- Every f32 operation rounds once, left to right. Definitions only. Assumes nothing.
 use mathlib.Core.Bool.{Bool, cond, _&&_}
 use mathlib.Core.List.{List}

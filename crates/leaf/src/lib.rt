@@ -1,4 +1,4 @@
-// The numbers of a leaf (document 01, 'Leaf report'): shell, density, occupancy and partition score; the Rust's
+// The numbers of a leaf (docs/RULES.md, 'Leaf report'): shell, density, occupancy and partition score; the Rust's
 // `water_count_in_expanded_bounds`, the ratio of `occupancy_count_score`, `reference_octree_leaf_volume` and `partition_size_score`. Every
 // f32 operation rounds once, left to right. Lengths are in angstrom.
 ghost use mathlib.Core.Path.{_≡_};

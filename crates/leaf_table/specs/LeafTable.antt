@@ -1,4 +1,4 @@
--- Document 01, 'Leaf report': the eight words of a leaf, and the leaves of a list of nodes. Definitions only. Assumes nothing.
+-- docs/RULES.md, 'Leaf report': the eight words of a leaf, and the leaves of a list of nodes. Definitions only. Assumes nothing.
 use mathlib.Core.Bool.{Bool, cond, _&&_}
 use mathlib.Core.List.{List, [], _∷_, _++_}
 use Prim.Native.Nat.{ℕ, _+_}

@@ -1,4 +1,4 @@
-// The leaf table (document 01, 'Leaf report'): eight words for each leaf with centers, from the node tables of a tree.
+// The leaf table (docs/RULES.md, 'Leaf report'): eight words for each leaf with centers, from the node tables of a tree.
 ghost use mathlib.Core.Path.{_≡_};
 ghost use mathlib.Core.Bool.{_&&_, cond};
 ghost use Prim.Native.Nat.{ℕ, _+_, _*_, _^_, _≤_, _<_};

@@ -1,4 +1,4 @@
--- Document 01's listing, and the other texts, as the definitions give them: `checked`, one statement for the lot. Assumes nothing.
+-- The listing (docs/RULES.md), and the other texts, as the definitions give them: `checked`, one statement for the lot. Assumes nothing.
 use mathlib.Core.Path.{_≡_, refl}
 use mathlib.Core.Bool.{false}
 use mathlib.Core.List.{List, [], _∷_}
@@ -31,7 +31,7 @@ one = ofBits binary32 0x3f80_0000
 abbrev quarter : Float
 quarter = ofBits binary32 0x3e80_0000
 
--- the leaf table of document 01's listed frame
+-- the leaf table of the listed frame (docs/RULES.md)
 abbrev pub leaves : List ℕ
 leaves =
     3 ∷ 1 ∷ 0 ∷ 0 ∷ 1 ∷ 0x3faa_aaab ∷ 0x3e00_0000 ∷ 0

@@ -7,5 +7,5 @@ pub mod Lengths
 pub mod Words
 -- what a call that writes a text owes
 pub mod Answers
--- document 01's listing, as the definitions give it
+-- the listing (docs/RULES.md), as the definitions give it
 pub mod Examples

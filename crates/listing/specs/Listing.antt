@@ -1,4 +1,4 @@
--- Document 01, program `frame`: what it prints, `refused` and the number, or `blank`, or the listing, and what a call that writes it
+-- docs/RULES.md, program `frame`: what it prints, `refused` and the number, or `blank`, or the listing, and what a call that writes it
 -- into a lent buffer answers. Floats are bits in hexadecimal, other numbers decimal. Definitions only. Assumes nothing.
 use Prim.Native.Nat.{ℕ, zero, suc, _+_, _*_}
 use mathlib.Core.Bool.{Bool, _||_}

@@ -1,4 +1,4 @@
-// What program `frame` prints (document 01), written into a lent buffer: `refused` and a number, `blank`, or the listing.
+// What program `frame` prints (docs/RULES.md), written into a lent buffer: `refused` and a number, `blank`, or the listing.
 // The text's length is counted before its first byte is written, so that a refusal changes nothing.
 ghost use mathlib.Core.Path.{_≡_};
 ghost use mathlib.Core.Bool.{false};

@@ -1,4 +1,4 @@
--- Document 01, 'Whole frame': where it answers, it is Select, Open, the rows in rising order, Close, Dispersion and Report, with their
+-- docs/RULES.md, 'Whole frame': where it answers, it is Select, Open, the rows in rising order, Close, Dispersion and Report, with their
 -- answers. One claim about the definitions, proved in proofs/Calls.antt. Definitions only. Assumes nothing.
 use mathlib.Core.Path.{_≡_}
 use Prim.Native.Nat.{ℕ}

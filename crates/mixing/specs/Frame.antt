@@ -1,4 +1,4 @@
--- Document 01, 'Whole frame': 1, 2, 3, 4; then blank; then 5, 6, 7, 13; otherwise Select, Open, the rows in rising order, Close,
+-- docs/RULES.md, 'Whole frame': 1, 2, 3, 4; then blank; then 5, 6, 7, 13; otherwise Select, Open, the rows in rising order, Close,
 -- Dispersion and Report, with their answers and tables. Definitions only. Assumes nothing.
 use Prim.Native.Nat.{ℕ}
 use mathlib.Core.Bool.{Bool, cond, _&&_}

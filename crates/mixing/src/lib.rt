@@ -1,4 +1,4 @@
-// The whole frame (document 01, 'Whole frame'): the input is tested once, all lengths are known before the first write, and then the
+// The whole frame (docs/RULES.md, 'Whole frame'): the input is tested once, all lengths are known before the first write, and then the
 // unchecked cores of Select, Open, Row, Close, Dispersion and Report run. Beside the lent tables it keeps on its stack what they keep.
 ghost use mathlib.Core.Path.{_≡_};
 ghost use Rattle.base.specs.Entry.{old};
@@ -105,7 +105,7 @@ pub fn frame(
     scan::scan_all(cell, solutes, firsts, picked, clusters);
     let f = cluster_table::fractions(clusters, n.copies);
     let dispersion = dispersion::dispersion_of(cell, solutes, firsts, picked);
-    // Last: where it answers 13, the scan and Select have written already, as document 01 has it.
+    // Last: where it answers 13, the scan and Select have written already, as the rules have it.
     let reported = report::report_of(
         cell,
         solutes,

@@ -1,4 +1,4 @@
-// The C interface: every call of document 01 over numbers and slices, as include/baithrum.h declares it. The result is the refusal's
+// The C interface: every call of docs/RULES.md over numbers and slices, as include/baithrum.h declares it. The result is the refusal's
 // number, 0 for success. The values of an answer go to the lent table `answers`, as many of them as it holds, floats as bits.
 ghost use mathlib.Core.Path.{_≡_};
 ghost use mathlib.Core.List.{[]};

@@ -1,4 +1,4 @@
--- Document 01, 'Octree': a node, its record and its box; the node tables of a list of nodes, and the order lists as they start.
+-- docs/RULES.md, 'Octree': a node, its record and its box; the node tables of a list of nodes, and the order lists as they start.
 -- Definitions only. Assumes nothing.
 use mathlib.Core.List.{List, [], _∷_, _++_}
 use Prim.Native.Nat.{ℕ, _+_, max}

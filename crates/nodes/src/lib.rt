@@ -1,4 +1,4 @@
-// A tree's nodes in lent tables (document 01, 'Octree'): a node's record and box, and fresh tables.
+// A tree's nodes in lent tables (docs/RULES.md, 'Octree'): a node's record and box, and fresh tables.
 use bounds::OctreeBounds;
 ghost use mathlib.Core.Path.{_≡_};
 ghost use mathlib.Core.List.{[], _∷_};

@@ -3,7 +3,7 @@ ghost use mathlib.Core.Path.{_≡_};
 ghost use lib.Ieee.{binary32, binary64, nanBits, ofBits, toBits};
 ghost use lib.Ieee.Scale.{finite};
 
-// The bits that every NaN gives (document 01): quiet, with no sign.
+// The bits that every NaN gives (docs/RULES.md): quiet, with no sign.
 pub const NAN32: u32 = 0x7fc0_0000;
 
 pub const NAN64: u64 = 0x7ff8_0000_0000_0000;

@@ -1,4 +1,4 @@
--- Document 01, 'Octree': the points of an octant. Splitting is stable: they keep the order in which the node has them.
+-- docs/RULES.md, 'Octree': the points of an octant. Splitting is stable: they keep the order in which the node has them.
 -- Definitions only. Assumes nothing.
 use mathlib.Core.Bool.{Bool, cond}
 use mathlib.Core.List.{List, [], _∷_}

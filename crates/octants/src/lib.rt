@@ -1,4 +1,4 @@
-// The octant of a point, and stable splitting of an order list by octant (document 01, 'Octree'): a counting sort, linear in the points.
+// The octant of a point, and stable splitting of an order list by octant (docs/RULES.md, 'Octree'): a counting sort, linear in the points.
 // `arrange` tests nothing of its lists; its callers do.
 use cell::Vec3;
 ghost use mathlib.Core.Path.{_≡_};

@@ -1,4 +1,4 @@
--- Document 01's listed frame, worked out by the definitions: cell 0..16, centers (2,2,2) and (4,2,2), water (6,6,6). It has six nodes and
+-- The listed frame (docs/RULES.md), worked out by the definitions: cell 0..16, centers (2,2,2) and (4,2,2), water (6,6,6). It has six nodes and
 -- depth 3; the leaves with centers are nodes 3 and 4. Assumes nothing.
 use mathlib.Core.Path.{_≡_, refl}
 use mathlib.Core.List.{List, [], _∷_}

@@ -11,5 +11,5 @@ pub mod Stretches
 pub mod Growing
 -- the end of the loop, and what an answer tells
 pub mod Planting
--- ---- document 01's listed frame, by the definitions
+-- ---- the listed frame (docs/RULES.md), by the definitions
 pub mod Examples

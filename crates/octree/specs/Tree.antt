@@ -1,4 +1,4 @@
--- Document 01, 'Octree' and 'Tree': the tree of a box, centers and waters, and what building it answers and leaves.
+-- docs/RULES.md, 'Octree' and 'Tree': the tree of a box, centers and waters, and what building it answers and leaves.
 -- Definitions only. Assumes nothing.
 use mathlib.Core.Bool.{cond}
 use mathlib.Core.List.{List, [], _∷_, _++_}

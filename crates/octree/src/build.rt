@@ -1,4 +1,4 @@
-// The recursive builder (document 01, 'Octree'): a node, and in its own middle stretch of both order lists each of its children.
+// The recursive builder (docs/RULES.md, 'Octree'): a node, and in its own middle stretch of both order lists each of its children.
 use crate::Built;
 use bounds::OctreeBounds;
 use division::divide;

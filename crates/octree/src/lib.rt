@@ -1,4 +1,4 @@
-// The octree of a frame (document 01, 'Octree'): the recursive builder that the calls Tree and Report rest on.
+// The octree of a frame (docs/RULES.md, 'Octree'): the recursive builder that the calls Tree and Report rest on.
 // build.rt: a node, and its children
 pub mod build;
 

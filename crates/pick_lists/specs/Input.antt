@@ -1,4 +1,4 @@
--- Document 01, Row, Centers, Dispersion, Tree and Report: a call's input, and what every call asks of it: 1, 2, 3, 4, 15, 8.
+-- docs/RULES.md, Row, Centers, Dispersion, Tree and Report: a call's input, and what every call asks of it: 1, 2, 3, 4, 15, 8.
 -- Definitions only. Assumes nothing.
 use Prim.Native.Nat.{ℕ}
 use mathlib.Core.List.{List, [], _∷_, _++_}

@@ -1,4 +1,4 @@
--- Document 01, 'Selection' and Row's refusal 8: the pick lists, and when they are sound. Definitions only. Assumes nothing.
+-- docs/RULES.md, 'Selection' and Row's refusal 8: the pick lists, and when they are sound. Definitions only. Assumes nothing.
 use Prim.Native.Nat.{ℕ, _+_, _-_, _*_}
 use mathlib.Core.Bool.{Bool, true, not, _&&_}
 use mathlib.Core.List.{List, [], _∷_}

@@ -1,4 +1,4 @@
-// Pick lists (document 01, 'Selection' and refusal 8): whether they are sound, the picks of a copy, and the refusals that every call on them makes
+// Pick lists (docs/RULES.md, 'Selection' and refusal 8): whether they are sound, the picks of a copy, and the refusals that every call on them makes
 // first.
 use base::MAX_ATOMS;
 use base::MAX_COPIES;

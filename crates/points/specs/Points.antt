@@ -1,4 +1,4 @@
--- Document 01, 'Octree': tree centers are wrapped once more; finite waters are wrapped and numbered without the others.
+-- docs/RULES.md, 'Octree': tree centers are wrapped once more; finite waters are wrapped and numbered without the others.
 -- Coordinate lists, x y z in turn. Definitions only. Assumes nothing.
 use mathlib.Core.Bool.{cond}
 use mathlib.Core.List.{List, [], _∷_}

@@ -1,4 +1,4 @@
-// The points of a tree (document 01, 'Octree'): the centers of the copies, wrapped once more, and the finite waters, wrapped.
+// The points of a tree (docs/RULES.md, 'Octree'): the centers of the copies, wrapped once more, and the finite waters, wrapped.
 ghost use mathlib.Core.Path.{_≡_};
 ghost use mathlib.Core.Bool.{true};
 ghost use mathlib.Core.List.{[]};

@@ -1,4 +1,4 @@
--- The report of document 01's listed frame, worked out by the definitions: `checked`. Numbers are given by their f32 bits. Assumes nothing.
+-- The report of the listed frame (docs/RULES.md), worked out by the definitions: `checked`. Numbers are given by their f32 bits. Assumes nothing.
 use mathlib.Core.Path.{_≡_, refl}
 use mathlib.Core.List.{List, [], _∷_}
 use lib.Ieee.{Float, binary32, ofBits, toBits, ofInt, add, sub, mul, div, neg, lt, le}

@@ -8,5 +8,5 @@ pub mod ReportOutcomes
 pub mod BoxBounds
 -- No ratio that Report writes has the bits 0.
 pub mod RatioBits
--- The report of document 01's listed frame, by the definitions.
+-- The report of the listed frame (docs/RULES.md), by the definitions.
 pub mod Examples

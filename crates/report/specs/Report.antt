@@ -1,4 +1,4 @@
--- Document 01, 'Leaf report' and Report: the leaf table of a frame's tree, and what Report answers and leaves. Definitions only. Assumes
+-- docs/RULES.md, 'Leaf report' and Report: the leaf table of a frame's tree, and what Report answers and leaves. Definitions only. Assumes
 -- nothing.
 use mathlib.Core.List.{List, [], _∷_}
 use Prim.Native.Nat.{ℕ, _/_, min}

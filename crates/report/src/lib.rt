@@ -1,4 +1,4 @@
-// The leaf report (document 01, Report): Report rebuilds the tree in the lent tables and fills a leaf table. Beside the tables it keeps
+// The leaf report (docs/RULES.md, Report): Report rebuilds the tree in the lent tables and fills a leaf table. Beside the tables it keeps
 // what Tree keeps on its stack.
 ghost use mathlib.Core.Path.{_≡_};
 ghost use mathlib.Core.Bool.{true};

@@ -1,4 +1,4 @@
--- Document 01, 'Whole frame': Open, then the rows in rising order, by the calls that the order rule is about.
+-- docs/RULES.md, 'Whole frame': Open, then the rows in rising order, by the calls that the order rule is about.
 -- Definitions only. Assumes nothing.
 use mathlib.Core.List.{List, [], _∷_}
 use Prim.Native.Nat.{ℕ, zero, suc}

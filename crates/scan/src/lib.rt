@@ -1,4 +1,4 @@
-// The unchecked scan of every row (document 01, 'Whole frame'): Open and the rows in rising order, for input that nothing refuses, with one span table
+// The unchecked scan of every row (docs/RULES.md, 'Whole frame'): Open and the rows in rising order, for input that nothing refuses, with one span table
 // for all rows. What a row adds is crate `clusters`' own.
 ghost use mathlib.Core.Path.{_≡_};
 ghost use mathlib.Core.Bool.{true};

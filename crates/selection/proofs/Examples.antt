@@ -1,4 +1,4 @@
--- Document 01, 'Checked frames', on this layer: which atoms are picked, worked out from the definitions. Every atom is at (1, 1, 1).
+-- docs/RULES.md, 'Checked frames', on this layer: which atoms are picked, worked out from the definitions. Every atom is at (1, 1, 1).
 -- Assumes nothing.
 use mathlib.Core.Path.{_≡_, refl}
 use mathlib.Core.List.{List, [], _∷_}

@@ -9,5 +9,5 @@ pub mod Writing
 pub mod SelectRefusals
 -- what Select writes is sound
 pub mod SoundSelect
--- document 01's checked frames on this layer, worked out
+-- the checked frames (docs/RULES.md) on this layer, worked out
 pub mod Examples

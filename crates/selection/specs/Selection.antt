@@ -1,4 +1,4 @@
--- Document 01, 'Selection' and Select. Atoms are numbered among all solute atoms. Definitions only. Assumes nothing.
+-- docs/RULES.md, 'Selection' and Select. Atoms are numbered among all solute atoms. Definitions only. Assumes nothing.
 use Prim.Native.Nat.{ℕ, zero, suc, _+_, _/_}
 use mathlib.Core.Bool.{cond, _&&_, _||_}
 use mathlib.Core.List.{List, [], _∷_, _++_}

@@ -1,4 +1,4 @@
-// Which atoms count (document 01, 'Selection'): Select.
+// Which atoms count (docs/RULES.md, 'Selection'): Select.
 // Select passes over the copies twice: it counts before it writes, so that a refusal changes nothing.
 ghost use mathlib.Core.Path.{_≡_};
 ghost use Prim.Native.Nat.{_+_, _*_, _≤_, _<_};

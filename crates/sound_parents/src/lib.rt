@@ -1,5 +1,5 @@
-// Whether a list of parents is sound (document 01, refusal 9): each parent below n, and each copy reaches its own root in n steps. The test takes
-// a fixed multiple of n steps on any list, cycles and chains of depth n included: a local array of 4,096 words remembers what was seen.
+// Whether a list of parents is sound (docs/RULES.md, refusal 9): each parent below n, and each copy reaches its own root in n steps. The test takes
+// a fixed multiple of n steps on any list, cycles and chains of depth n included: a local array of 4,096 half words remembers what was seen.
 ghost use mathlib.Core.Path.{_≡_};
 ghost use mathlib.Core.Bool.{true};
 ghost use Prim.Native.Nat.{_+_, _<_, _≤_};
@@ -77,27 +77,28 @@ fn shallow(parent: &[u32]) -> bool
 }
 
 // Walks up from i, leaving i + 1 in `seen` at each copy that no walk saw before. An earlier walk ended at a root, so a copy that
-// it saw reaches one; a copy that this walk saw closes a cycle.
-fn ends(parent: &[u32], seen: &mut [u32], i: u32) -> bool
+// it saw reaches one; a copy that this walk saw closes a cycle. A half word holds each stamp, for i is below 4,096.
+fn ends(parent: &[u32], seen: &mut [u16], i: u32) -> bool
     requires { ⌜ allBelow (length (now parent)) (λ i. ltb (getD (now parent) i 0) (length (now parent))) ≡ true ⌝ }
     requires { ⌜ (i < length (now parent)) × (length (now parent) ≤ length (now seen)) × (length (now parent) ≤ maxCopies) ⌝ }
     requires { ⌜ Stamped (now parent) (now seen) i ⌝ }
     ensures { λ r. ⌜ r ≡ reachesRoot (old parent) i ⌝ }
     ensures { λ r. ⌜ (r ≡ true → Stamped (old parent) (now (seen .exit)) (i + 1)) ⌝ }
 {
+    let stamp = (i + 1) as u16;
     let mut k = i;
     while seen[k as usize] == 0 {
-        seen[k as usize] = i + 1;
+        seen[k as usize] = stamp;
         if parent[k as usize] == k {
             return true;
         }
         k = parent[k as usize];
     }
-    seen[k as usize] != i + 1
+    seen[k as usize] != stamp
 }
 
 // Whether every chain ends at a root, for parents that are all below n.
-fn all_end(parent: &[u32], seen: &mut [u32]) -> bool
+fn all_end(parent: &[u32], seen: &mut [u16]) -> bool
     requires { ⌜ allBelow (length (now parent)) (λ i. ltb (getD (now parent) i 0) (length (now parent))) ≡ true ⌝ }
     requires { ⌜ (length (now parent) ≤ length (now seen)) × (length (now parent) ≤ maxCopies) ⌝ }
     requires { ⌜ Stamped (now parent) (now seen) 0 ⌝ }
@@ -124,6 +125,6 @@ pub fn is_sound(parent: &[u32]) -> bool
     if shallow(parent) {
         return true;
     }
-    let mut seen = [0u32; MAX_COPIES];
+    let mut seen = [0u16; MAX_COPIES];
     all_end(parent, &mut seen)
 }

@@ -1,4 +1,4 @@
--- The starred frames of document 01, as the definitions compute them: `starred`. Assumes nothing.
+-- The starred frames (docs/RULES.md, 'Checked frames'), as the definitions compute them: `starred`. Assumes nothing.
 use mathlib.Core.Path.{_≡_, refl, sym, ap}
 use mathlib.Core.Bool.{Bool, true, false, not, _&&_, _||_}
 use mathlib.Core.List.{[]}

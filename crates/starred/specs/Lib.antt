@@ -1,2 +1,2 @@
--- The starred frames of document 01.
+-- The starred frames (docs/RULES.md, 'Checked frames').
 pub mod Starred

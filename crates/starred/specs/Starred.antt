@@ -1,4 +1,4 @@
--- Document 01, 'Checked frames': the starred ones, by one statement for the lot. Floats are given by their bits; points and cells are
+-- docs/RULES.md, 'Checked frames': the starred ones, by one statement for the lot. Floats are given by their bits; points and cells are
 -- alike on the three axes. Definitions only. Assumes nothing.
 use mathlib.Core.Path.{_≡_}
 use mathlib.Core.Bool.{true, false}

@@ -1,4 +1,4 @@
--- Document 01, 'Touch': true if some picked pair has squared distance at most 4.2 x 4.2, in angstrom squared.
+-- docs/RULES.md, 'Touch': true if some picked pair has squared distance at most 4.2 x 4.2, in angstrom squared.
 -- Definitions only. Assumes nothing.
 use mathlib.Core.Bool.{Bool, false, _||_}
 use mathlib.Core.List.{List, [], _∷_}

@@ -1,4 +1,4 @@
-// When two copies touch (document 01, 'Touch'; the Rust's `solute_mols_touch`): some pick of one and some pick of the other are at most the cutoff
+// When two copies touch (docs/RULES.md, 'Touch'; the Rust's `solute_mols_touch`): some pick of one and some pick of the other are at most the cutoff
 // apart, by the minimum image (specs/Touch.antt). The search that runs is in crates `gates` and `boxes`, behind this definition.
 
 // The cutoff for contacts, in angstrom: at most, not below.

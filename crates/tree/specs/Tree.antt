@@ -1,4 +1,4 @@
--- Document 01, Tree: as dispersion, then 7 for order lists, then 13. Definitions only. Assumes nothing.
+-- docs/RULES.md, Tree: as dispersion, then 7 for order lists, then 13. Definitions only. Assumes nothing.
 use mathlib.Core.Bool.{_||_}
 use mathlib.Core.List.{List, [], _∷_, _++_}
 use Prim.Native.Nat.{ℕ, min, _/_}

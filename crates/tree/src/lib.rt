@@ -1,4 +1,4 @@
-// Tree (document 01, 'Octree'; the Rust's `MixingOctree::new`): the octree over the centers of the copies and the finite waters.
+// Tree (docs/RULES.md, 'Octree'; the Rust's `MixingOctree::new`): the octree over the centers of the copies and the finite waters.
 // Beside the lent tables a call keeps the wrapped points on its stack: 12,288 and 196,608 floats, and 65,536 words and bytes to split.
 ghost use mathlib.Core.Path.{_≡_};
 ghost use mathlib.Core.Bool.{true};

@@ -1,4 +1,4 @@
-// The whole tree of a frame in lent tables (document 01, 'Octree' and 13): `build_tree` rearranges two order lists and fills two node tables; it
+// The whole tree of a frame in lent tables (docs/RULES.md, 'Octree' and 13): `build_tree` rearranges two order lists and fills two node tables; it
 // tests nothing, its caller does.
 use base::MAX_ATOMS;
 use bounds::OctreeBounds;

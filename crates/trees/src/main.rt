@@ -1,5 +1,5 @@
 // Runs Tree and Report on frames at the edges, and prints nodes, greatest depth, reported leaves and dry leaves beside the expected
-// ones, worked out from document 01 by hand: a box of width w splits while w > 0.75, its depth is below 14 and it has two centers, and
+// ones, worked out from the rules by hand: a box of width w splits while w > 0.75, its depth is below 14 and it has two centers, and
 // copies in one place always fall into one octant. So two copies at one point make a chain of nodes: widths 16, 8, 4, 2, 1 and 0.5 in
 // the cell 0..16 (depth 5), and in the cell 0..16,384 widths down to 1 at depth 14.
 use cell::Cell;

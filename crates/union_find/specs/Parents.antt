@@ -1,4 +1,4 @@
--- Document 01, 'Clusters': the parents of n copies, a list of n numbers. Copy i stands under copy `getD p i 0`, and a root under itself.
+-- docs/RULES.md, 'Clusters': the parents of n copies, a list of n numbers. Copy i stands under copy `getD p i 0`, and a root under itself.
 -- Definitions only. Assumes nothing.
 use mathlib.Core.Bool.{Bool, cond, _&&_}
 use mathlib.Core.List.{List}

@@ -1,4 +1,4 @@
-// Union-find over a lent list of parents (document 01, 'Clusters'; the Rust's `find_root` and `union_roots`): joins without rank,
+// Union-find over a lent list of parents (docs/RULES.md, 'Clusters'; the Rust's `find_root` and `union_roots`): joins without rank,
 // chains shortened as the Rust does. The largest set takes a fixed multiple of n steps on any sound list, chains of depth n included.
 ghost use mathlib.Core.Path.{_≡_};
 ghost use mathlib.Core.Bool.{true};
@@ -53,8 +53,9 @@ fn copy_in(parent: &[u32], p: &mut [u32])
     }
 }
 
-// Finds each root in p, which shortens its chains, counts it in `sizes`, and answers the greatest count.
-fn greatest_size(p: &mut [u32], sizes: &mut [u32]) -> u32
+// Finds each root in p, which shortens its chains, counts it in `sizes`, and answers the greatest count. A half word holds each
+// count, for there are at most 4,096 copies.
+fn greatest_size(p: &mut [u32], sizes: &mut [u16]) -> u32
     requires { ⌜ (soundParents (now p) ≡ true) × (length (now p) ≤ maxCopies) × (length (now p) ≤ length (now sizes)) ⌝ }
     requires { ⌜ ((k : ℕ) → k < length (now p) → getD (now sizes) k 0 ≡ 0) ⌝ }
     ensures { λ r. ⌜ r ≡ largestSet (old p) ⌝ }
@@ -70,11 +71,11 @@ fn greatest_size(p: &mut [u32], sizes: &mut [u32]) -> u32
         }
         i += 1;
     }
-    most
+    most as u32
 }
 
 // The largest set, with p and sizes to work in.
-fn largest_in(parent: &[u32], p: &mut [u32], sizes: &mut [u32]) -> u32
+fn largest_in(parent: &[u32], p: &mut [u32], sizes: &mut [u16]) -> u32
     requires { ⌜ (soundParents (now parent) ≡ true) × (length (now parent) ≤ maxCopies) ⌝ }
     requires { ⌜ (length (now parent) ≤ length (now p)) × (length (now parent) ≤ length (now sizes)) ⌝ }
     requires { ⌜ ((k : ℕ) → k < length (now parent) → getD (now sizes) k 0 ≡ 0) ⌝ }
@@ -90,6 +91,6 @@ pub fn largest_set(parent: &[u32]) -> u32
     ensures { λ r. ⌜ r ≡ largestSet (old parent) ⌝ }
 {
     let mut p = [0u32; MAX_COPIES];
-    let mut sizes = [0u32; MAX_COPIES];
+    let mut sizes = [0u16; MAX_COPIES];
     largest_in(parent, &mut p, &mut sizes)
 }

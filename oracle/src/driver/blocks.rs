@@ -1,4 +1,4 @@
-//! Input bytes for the program `frame`: first one of each kind that document 01 speaks of, then random ones.
+//! Input bytes for the program `frame`: first one of each kind that the rules speak of, then random ones.
 
 mod special;
 

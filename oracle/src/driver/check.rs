@@ -134,7 +134,7 @@ impl Checker<'_> {
     fn selection_agrees(&mut self, kept: &[Vec<u32>]) -> Checked {
         let case = self.case;
         if kept != reading::select_by_words(&case.solutes, case.per, &case.indices) {
-            return self.differ(Call::Original, "selection: document 01's words and the original part".into());
+            return self.differ(Call::Original, "selection: the rules' words and the original part".into());
         }
         let atoms = reading::points(&case.solutes);
         let indices: Vec<usize> = case.indices.iter().map(|&i| i as usize).collect();

@@ -1,4 +1,4 @@
-//! Document 01's checked frames, tried on the stand-ins and the second reading before anything else is compared.
+//! The checked frames of docs/RULES.md, tried on the stand-ins and the second reading before anything else is compared.
 
 use lin_alg::f32::Vec3;
 use original::properties::opened::access as rust;
@@ -72,9 +72,9 @@ pub fn hold() {
     ];
     for (name, holds) in examples {
         if !holds {
-            println!("DIFFERENCE: document 01's example does not hold of the second reading: {name}");
+            println!("DIFFERENCE: a checked frame does not hold of the second reading: {name}");
             exit(1);
         }
     }
-    println!("document 01's checked frames: {} hold of the second reading", examples.len());
+    println!("checked frames: {} hold of the second reading", examples.len());
 }

@@ -1,4 +1,4 @@
-//! The program `frame`, read from document 01: its block and its listing.
+//! The program `frame`, read from the rules: its block and its listing.
 
 use super::{FrameInput, FrameWork, Picked, TreeTables, finite_waters, frame, frame_picks, frame_short};
 use std::fmt::Write;

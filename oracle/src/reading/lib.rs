@@ -1,5 +1,5 @@
-//! A second reading of document 01: every call with its refusals, tables and answers, in plain Rust.
-//! Written from the document; where the original decides (touch, joining, centers, dispersion, tree, leaf counts)
+//! A second reading of the rules (docs/RULES.md): every call with its refusals, tables and answers, in plain Rust.
+//! Written from the paper behind them, not from the Rattle code; where the original decides (touch, joining, centers, dispersion, tree, leaf counts)
 //! the original's own functions are called. Float tables are held as bits. Assumes nothing of its input.
 
 pub mod block;

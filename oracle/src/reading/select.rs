@@ -25,7 +25,7 @@ pub fn select_all(solutes: &[f32], per: usize, indices: &[u32]) -> Vec<Vec<u32>>
         .collect()
 }
 
-/// The same by document 01's words, without the original. The driver holds the two together.
+/// The same by the rules' words, without the original. The driver holds the two together.
 pub fn select_by_words(solutes: &[f32], per: usize, indices: &[u32]) -> Vec<Vec<u32>> {
     let atoms = points(solutes);
     let mut kept = Vec::new();

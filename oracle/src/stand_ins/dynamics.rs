@@ -1,4 +1,4 @@
-//! Stand-in for the crate `dynamics`: the cell `SimBox`, as document 01 decides.
+//! Stand-in for the crate `dynamics`: the cell `SimBox`, as the rules decide.
 
 use lin_alg::f32::Vec3;
 

@@ -1,4 +1,4 @@
-//! Stand-in for the crate `lin_alg`: what the original file needs of it, as document 01 decides.
+//! Stand-in for the crate `lin_alg`: what the original file needs of it, as the rules decide.
 //! Every operation goes component by component and rounds once.
 
 pub mod f32 {

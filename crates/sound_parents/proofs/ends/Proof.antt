@@ -12,14 +12,20 @@ use Rattle.sound_parents.proofs.ends.Statement.{statement}
 use Rattle.sound_parents.proofs.ends.Tie as tie
 
 abbrev Inv-loop : tie.InvT-loop
-Inv-loop parent seen₀ i k₀ seen k = (length seen ≡ length seen₀) × Climb parent i seen k
+Inv-loop parent seen₀ i stamp k₀ seen k = (length seen ≡ length seen₀) × Climb parent i seen k
 
 abbrev μ-loop : tie.MeasureT-loop
-μ-loop parent seen₀ i k₀ seen k = count (length parent) (λ c. eqb (getD seen c 0) 0)
+μ-loop parent seen₀ i stamp k₀ seen k = count (length parent) (λ c. eqb (getD seen c 0) 0)
 
 -- a landmark: from past the first test back to the turn of the loop
 abbrev turn : tie.Then1 Inv-loop μ-loop → tie.At-loop Inv-loop μ-loop
 turn c = c .before .before
+
+add-stamp : tie.Need-add-stamp Inv-loop μ-loop
+add-stamp c = omega arith
+
+cast-stamp : tie.Need-cast-stamp Inv-loop μ-loop
+cast-stamp c = omega arith
 
 loop-holds : tie.Need-loop-holds Inv-loop μ-loop
 loop-holds c = (refl, climb-first (c .pre .1 .0 .0) (c .pre .1 .1))
@@ -32,9 +38,6 @@ mul-if1 c = omega arith
 
 slice-read-if1 : tie.Need-slice-read-if1 Inv-loop μ-loop
 slice-read-if1 c = omega arith
-
-add-seen : tie.Need-add-seen Inv-loop μ-loop
-add-seen c = omega arith
 
 cast-seen : tie.Need-cast-seen Inv-loop μ-loop
 cast-seen c = omega arith
@@ -92,9 +95,6 @@ mul-result c = omega arith
 slice-read-result : tie.Need-slice-read-result Inv-loop μ-loop
 slice-read-result c = omega arith
 
-add-result : tie.Need-add-result Inv-loop μ-loop
-add-result c = omega arith
-
 same-length-2 : tie.Need-same-length-2 Inv-loop μ-loop
 same-length-2 c = c .before .before .before .loop .inv .0
 
@@ -109,11 +109,12 @@ ends-spec =
     (tie.spec
     Inv-loop
     μ-loop
+    add-stamp
+    cast-stamp
     loop-holds
     cast-if1
     mul-if1
     slice-read-if1
-    add-seen
     cast-seen
     mul-seen
     slice-write-seen
@@ -130,6 +131,5 @@ ends-spec =
     cast-result
     mul-result
     slice-read-result
-    add-result
     same-length-2
     returns-2)

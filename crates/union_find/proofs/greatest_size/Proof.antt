@@ -6,8 +6,9 @@ use mathlib.Core.Logic.{⊎-elim}
 use Prim.Native.Nat.{_-_, _≤_, _<_}
 use native.Mathlib.Omega.{arith}
 use lib.ListN.{length, getD, length-set}
+use Rattle.union_find.specs.Parents.{largestSet}
 use Rattle.union_find.proofs.Forest.{Sound, sound-parents}
-use Rattle.union_find.proofs.Sizes.{Tally, tally-first, tally-sound, tally-below, tally-few, tally-next, tally-last}
+use Rattle.union_find.proofs.Sizes.{Tally, tally-first, tally-sound, tally-below, tally-few, tally-next, tally-last, largest-le}
 use Rattle.union_find.proofs.greatest_size.Statement.{statement}
 use Rattle.union_find.proofs.greatest_size.Tie as tie
 
@@ -103,6 +104,15 @@ loop-again c =
           (wide b) (c .if1 .most) (⊎-elim (λ w. omega (arith, w .0 .taken, w .1)) (λ w. omega (arith, w .0 .left, w .1)) (c .if1 .came))),
     )
 
+-- past the loop `most` is the largest set, which is no larger than the list
+answer : (c : tie.After-loop Inv-loop μ-loop) → c .before .loop .most ≡ largestSet (start (c .before) .args .p .now)
+answer c = tally-last (omega (arith, c .loop-test .left, c .before .loop .inv .1 .keeps .same)) (c .before .loop .inv .1)
+
+cast-result : tie.Need-cast-result Inv-loop μ-loop
+cast-result c =
+    let st = start (c .before) in
+    omega (arith, answer c, largest-le (st .args .p .now), st .pre .0 .1)
+
 same-length : tie.Need-same-length Inv-loop μ-loop
 same-length c = c .before .loop .inv .1 .keeps .same
 
@@ -110,7 +120,7 @@ same-length-2 : tie.Need-same-length-2 Inv-loop μ-loop
 same-length-2 c = c .before .loop .inv .0
 
 returns : tie.Need-returns Inv-loop μ-loop
-returns c = tally-last (omega (arith, c .loop-test .left, c .before .loop .inv .1 .keeps .same)) (c .before .loop .inv .1)
+returns c = answer c
 
 pub greatest-size-spec : {M : Type 1} → statement M
 greatest-size-spec =
@@ -131,6 +141,7 @@ greatest-size-spec =
     add-i
     loop-less
     loop-again
+    cast-result
     same-length
     same-length-2
     returns)

@@ -1,4 +1,4 @@
-//! One block of each kind that document 01 speaks of.
+//! One block of each kind that the rules speak of (docs/RULES.md).
 
 use crate::rng::Rng;
 use reading::block::Block;
@@ -16,7 +16,7 @@ fn plain(solutes: Vec<f32>, waters: Vec<f32>) -> Block {
     Block { per: 1, cell: cube(16.0), indices: vec![], solutes, waters }
 }
 
-/// Document 01's listed frame.
+/// The listed frame.
 fn listed() -> Block {
     plain(vec![2.0, 2.0, 2.0, 4.0, 2.0, 2.0], vec![6.0, 6.0, 6.0])
 }
