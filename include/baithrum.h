@@ -1,11 +1,15 @@
-/* Baithrum from C: one frame of a simulated box of water, judged call by call. Link target/staticlib/libmixing_c.a, which
- * `rt staticlib mixing_c` writes (x86-64 Linux). docs/MANUAL.md says how the calls go together.
+/* Baithrum from C: one frame of a simulated box of water, judged call by call. For x86-64 Linux. Link target/staticlib/libmixing_c.a, which
+ * `rt staticlib mixing_c` writes; it asks for memcpy and memset and nothing else:
  *
- * What each comment says is the function's proved promise (crates/mixing_c/src/lib.rt), for every input: a call ends, stays inside the
- * tables it was lent, refuses exactly where the comment says, and leaves every table entry as the comment says.
+ *     gcc -Iinclude -o prog prog.c target/staticlib/libmixing_c.a
  *
- * Numbers. Lengths are in angstrom. Coordinates are f32, x y z in turn; a cell is six f32, low x y z and high x y z. Two copies touch if a
- * picked atom of one and a picked atom of the other are at most 4.2 apart (at 4.2 they touch), by the nearest image.
+ * Refusals, tables and answers in a comment are the function's proved promise (crates/mixing_c/src/lib.rt), for every input: a call ends, stays
+ * inside the tables it was lent, refuses exactly where the comment says, and leaves every table entry as the comment says. docs/RULES.md has
+ * the exact rules, docs/MANUAL.md how the calls go together, what they cost, and what to do at a refusal.
+ *
+ * Numbers. Lengths are in angstrom. Coordinates are f32, x y z in turn. A water is one point, its oxygen: a list of all its atoms counts as
+ * three waters. A cell is rectangular, six f32, low x y z and high x y z. Two copies touch if a picked atom of one and a picked atom of the
+ * other are at most 4.2 apart (at 4.2 they touch), by the nearest image.
  *
  * Tables. A table is a pointer and its number of entries (not bytes). Entries past what an answer needs keep their values. A refusal
  * changes no table; the one exception is 13. Of a float table (centers, boxes) the promise is up to a NaN's payload: an entry that held a
@@ -13,24 +17,35 @@
  *
  * Answers. The result is 0, or the number of the first refusal in the order that the comment gives. What a call answers beyond that goes to
  * `answers`, a word for each value, floats as the bits of an f32: as many of the values as the table holds, from its start. The rest
- * of the table keeps its values, and so does all of it at a refusal.
+ * of the table keeps its values, and so does all of it at a refusal. A short `answers` is no refusal.
  *
- * Trusted, for no promise can say it: each pointer is aligned, not null (with 0 entries too), and good for its number of entries; no
- * table that a call writes overlaps another table of that call; nothing else uses a call's tables while it runs; and the stack has
- * room. No call keeps anything between calls, allocates, or prints, so calls on different tables may run at the same time.
- *
- * Stack, beside the lent tables, measured at the limits: Select, Open and Centers under 4 KB; Row 17 KB (16,384 bytes of arrays);
- * Close 33 KB (32,768); Dispersion 50 KB (49,152); Tree and Report 1.18 MB (1,163,264); the whole frame 1.29 MB (1,277,952).
+ * Trusted, for no promise can say it, and nothing notices where it is not so:
+ * - Each pointer is aligned, not null (with 0 entries too), and good for its number of entries. Lengths are right: a call goes as far as it
+ *   is told.
+ * - No table that a call writes overlaps another table of that call. While a call runs nothing else writes its tables, nor reads those that
+ *   it writes. No call keeps anything between calls, allocates, or prints, so calls on different tables may run at the same time.
+ * - The thread's floating-point state is the one that a program starts with: rounding to nearest, no flush to zero, no exception trapped; MXCSR
+ *   is 1F80 but for its flags. Linked with -ffast-math (gcc: -Ofast and -funsafe-math-optimizations too) a program or shared library starts with
+ *   another, and fesetround sets one: answers may change then. Where invalid or inexact is trapped, a call may end in SIGFPE. A call leaves the
+ *   state as it is, but for flags, which ordinary frames set. _mm_setcsr(0x1F80) before a call mends all of these.
+ * - The stack has room, beside the lent tables. The least on which a call answers, measured (measure/run stack), in bytes: Select, Open and
+ *   Centers under 500 (the first call that binds memcpy or memset lazily 3,400), Row 8,896, Close 24,736, Dispersion 49,888, Tree 1,176,080, Report 1,176,512, the whole frame 1,291,952.
  */
 #ifndef BAITHRUM_H
 #define BAITHRUM_H
 
 #include <stddef.h>
 #include <stdint.h>
+#include <string.h>
 
 #ifdef __cplusplus
 extern "C" {
 #endif
+
+/* The version of this header, 0.1.0: 10,000 times the first part, 100 times the second, and the third. The third grows where a caller sees
+ * no change, the second with every addition, the first where a name, a number or a meaning changes; while the first is 0, that may come
+ * with the second. The archive does not carry it: take both from one tree. */
+#define BAITHRUM_VERSION 100
 
 /* What a call results in. A number keeps its meaning in every call. */
 enum {
@@ -92,6 +107,115 @@ static inline const char *baithrum_sentence(uint32_t number) {
     }
 }
 
+/* The limits: solute atoms, and waters; indices; kept copies; picks; a finite bound of the cell and a finite coordinate, in magnitude, in
+ * angstrom. */
+#define BAITHRUM_MAX_ATOMS 65536
+#define BAITHRUM_MAX_INDICES 256
+#define BAITHRUM_MAX_COPIES 4096
+#define BAITHRUM_MAX_PICKS 65536
+#define BAITHRUM_MAX_BOUND 65536.0f
+#define BAITHRUM_MAX_COORDINATE 1048576.0f
+
+/* Entries that n copies need: words of starts, words of the cluster table, floats of centers. center_order needs n, picks one for each
+ * pick, water_order one for each finite water. */
+#define BAITHRUM_STARTS(n) ((size_t)(n) + 1)
+#define BAITHRUM_CLUSTER_WORDS(n) (2 + 3 * (size_t)(n))
+#define BAITHRUM_CENTER_FLOATS(n) (3 * (size_t)(n))
+
+/* Node records that are never refused 13, for n copies and so many waters (docs/MANUAL.md, 'Node records': most frames need far fewer). */
+#define BAITHRUM_ENOUGH_RECORDS(n, waters) (8 * (size_t)(n) + (size_t)(waters))
+
+/* Entries for each node: words of its record, floats of its box, words of the leaf table (room for a leaf is asked for each node). */
+#define BAITHRUM_RECORD_WORDS 8
+#define BAITHRUM_BOX_FLOATS 6
+#define BAITHRUM_LEAF_WORDS 8
+
+/* How many answers each call has that has any, and where they stand. Fractions and dispersion are bits, for baithrum_float. */
+#define BAITHRUM_SELECT_ANSWERS 2
+#define BAITHRUM_CLOSE_ANSWERS 3
+#define BAITHRUM_DISPERSION_ANSWERS 1
+#define BAITHRUM_TREE_ANSWERS 2
+#define BAITHRUM_REPORT_ANSWERS 4
+#define BAITHRUM_FRAME_ANSWERS 11
+
+enum { BAITHRUM_SELECT_COPIES = 0, BAITHRUM_SELECT_PICKS = 1 };
+
+enum { BAITHRUM_CLOSE_LARGEST = 0, BAITHRUM_CLOSE_CONTACTED = 1, BAITHRUM_CLOSE_PAIR = 2 };
+
+enum { BAITHRUM_TREE_NODES = 0, BAITHRUM_TREE_DEPTH = 1 };
+
+enum { BAITHRUM_REPORT_NODES = 0, BAITHRUM_REPORT_DEPTH = 1, BAITHRUM_REPORT_LEAVES = 2, BAITHRUM_REPORT_DRY = 3 };
+
+enum {
+    BAITHRUM_FRAME_BLANK = 0,
+    BAITHRUM_FRAME_COPIES = 1,
+    BAITHRUM_FRAME_PICKS = 2,
+    BAITHRUM_FRAME_LARGEST = 3,
+    BAITHRUM_FRAME_CONTACTED = 4,
+    BAITHRUM_FRAME_PAIR = 5,
+    BAITHRUM_FRAME_DISPERSION = 6,
+    BAITHRUM_FRAME_NODES = 7,
+    BAITHRUM_FRAME_DEPTH = 8,
+    BAITHRUM_FRAME_LEAVES = 9,
+    BAITHRUM_FRAME_DRY = 10
+};
+
+/* The words of a cluster table of n copies: n, the contacts, then n parents, n degrees and n marks. */
+enum { BAITHRUM_CLUSTER_COPIES = 0, BAITHRUM_CLUSTER_CONTACTS = 1, BAITHRUM_CLUSTER_PARENTS = 2 };
+#define BAITHRUM_CLUSTER_DEGREES(n) (2 + (size_t)(n))
+#define BAITHRUM_CLUSTER_MARKS(n) (2 + 2 * (size_t)(n))
+
+/* The words of a node record; the eighth is 0. */
+enum {
+    BAITHRUM_RECORD_DEPTH = 0,
+    BAITHRUM_RECORD_FIRST_CENTER = 1,
+    BAITHRUM_RECORD_CENTERS = 2,
+    BAITHRUM_RECORD_FIRST_WATER = 3,
+    BAITHRUM_RECORD_WATERS = 4,
+    BAITHRUM_RECORD_CHILDREN = 5,
+    BAITHRUM_RECORD_AFTER = 6
+};
+
+/* The words of a leaf; the eighth is 0. Both occupancies and the partition score are bits; a dry occupancy is 0. */
+enum {
+    BAITHRUM_LEAF_NODE = 0,
+    BAITHRUM_LEAF_CENTERS = 1,
+    BAITHRUM_LEAF_WATERS = 2,
+    BAITHRUM_LEAF_BOX_OCCUPANCY = 3,
+    BAITHRUM_LEAF_SHELL_WATERS = 4,
+    BAITHRUM_LEAF_SHELL_OCCUPANCY = 5,
+    BAITHRUM_LEAF_PARTITION = 6
+};
+
+/* The float of a word that holds its bits. */
+static inline float baithrum_float(uint32_t bits) {
+    float x;
+    memcpy(&x, &bits, sizeof x);
+    return x;
+}
+
+/* A pointer for a list or a table of so many entries: p, and with 0 entries one that is not null, whatever p is. For callers whose empty
+ * list is null, as data() of an empty std::vector is. Null with entries stays null, for no pointer stands in for those. */
+static inline const uint32_t *baithrum_words(const uint32_t *p, size_t entries) {
+    static const uint32_t none = 0;
+    return entries == 0 ? &none : p;
+}
+
+static inline const float *baithrum_floats(const float *p, size_t entries) {
+    static const float none = 0;
+    return entries == 0 ? &none : p;
+}
+
+static inline uint32_t *baithrum_lent_words(uint32_t *p, size_t entries) {
+    static uint32_t none = 0;
+    return entries == 0 ? &none : p;
+}
+
+static inline float *baithrum_lent_floats(float *p, size_t entries) {
+    static float none = 0;
+    return entries == 0 ? &none : p;
+}
+
 /* Select: which atoms count. Copies are whole chunks of `per` solute atoms; 0 gives none, a trailing short chunk is dropped. Of each copy
  * the indices pick atoms, in list order and repeats again; those past the copy or not finite are skipped. Where nothing was picked, as
  * with no indices, all finite atoms of the copy are. A copy with no pick vanishes.
@@ -103,8 +227,8 @@ uint32_t baithrum_select(const float *solutes, size_t solutes_len, size_t per, c
                          uint32_t *starts, size_t starts_len, uint32_t *picks, size_t picks_len,
                          uint32_t *answers, size_t answers_len);
 
-/* The calls below take the pick lists exactly: starts_len is kept copies + 1, picks_len the picks. 8 is refused unless starts begins at 0,
- * rises strictly, has n + 1 words with n at most 4,096 and ends at picks_len, at most 65,536, and each pick names a finite atom. */
+/* Row, Centers, Dispersion, Tree and Report take the pick lists exactly: starts_len is kept copies + 1, picks_len the picks. 8 is refused
+ * unless starts begins at 0, rises strictly, has n + 1 words with n at most 4,096 and ends at picks_len, at most 65,536, and each pick names a finite atom. */
 
 /* Open: a cluster table of n copies with no contact.
  * Writes 2 + 3n words: n, contacts 0, then n parents (each copy its own), n degrees 0, n marks 0.
@@ -114,8 +238,8 @@ uint32_t baithrum_open(uint32_t *table, size_t table_len, size_t n);
 /* Row: scans row i, which tests copy i against each later copy. Rows may come in any order, each once.
  * Writes the table: each touch joins the root of j under the root of i, shortens chains, and raises both degrees and the
  * contacts; then mark i becomes 1.
- * Refusals: 1, 2, 3, 4, 15, 8, 7 (table shorter than 2 + 3n), 9 (n differs from the pick lists', a parent is not below n or does not
- * reach its own root in n steps, a degree is not below n, a mark is above 1, or contacts exceed n(n-1)/2), 10, 11. */
+ * Refusals: 1, 2, 3, 4, 15, 8, 7 (table shorter than 2 + 3n), 9 (n differs from the pick lists', a parent is not below n, a copy does
+ * not reach a root in n steps, a degree is not below n, a mark is above 1, or contacts exceed n(n-1)/2), 10, 11. */
 uint32_t baithrum_row(float lx, float ly, float lz, float hx, float hy, float hz, const float *solutes, size_t solutes_len,
                       const uint32_t *starts, size_t starts_len, const uint32_t *picks, size_t picks_len,
                       uint32_t *table, size_t table_len, size_t i);
@@ -133,7 +257,7 @@ uint32_t baithrum_centers(float lx, float ly, float lz, float hx, float hy, floa
                           const uint32_t *starts, size_t starts_len, const uint32_t *picks, size_t picks_len,
                           float *centers, size_t centers_len);
 
-/* Dispersion: how evenly the centers are spread.
+/* Dispersion: how far apart the centers are, as a ratio to centers at random places.
  * Answers: the score, 0 to 1; 1 below two copies.
  * Refusals: 1, 2, 3, 4, 15, 8. */
 uint32_t baithrum_dispersion(float lx, float ly, float lz, float hx, float hy, float hz, const float *solutes, size_t solutes_len,
@@ -153,7 +277,7 @@ uint32_t baithrum_tree(float lx, float ly, float lz, float hx, float hy, float h
                        uint32_t *water_order, size_t water_order_len, uint32_t *records, size_t records_len,
                        float *boxes, size_t boxes_len, uint32_t *answers, size_t answers_len);
 
-/* Report: Tree over again in the same tables, and the leaves that have centers.
+/* Report: does what Tree does, in the same tables, and lists the leaves that have centers.
  * Writes what Tree writes, and leaves, eight words for each such leaf in node order: node, centers, waters, box occupancy, shell waters,
  * shell occupancy, partition score, 0; floats as bits, a dry occupancy as 0.
  * Answers: nodes, greatest depth, reported leaves, dry leaves (those with no water in their own box).
@@ -170,8 +294,8 @@ uint32_t baithrum_report(float lx, float ly, float lz, float hx, float hy, float
  * dry leaves.
  * A frame is blank if the cell is not valid, a coordinate list is empty, no copy is kept or no water is finite. It is no refusal: the
  * result is 0, the first answer is 1, the others are 0, and no other table is changed. Otherwise the first answer is 0.
- * Refusals: 1, 2, 3, 4, then blank, 5, 6, 7 (any table but the node tables), 13. At 13 the pick lists and clusters are filled and the
- * rest is as Report leaves it. */
+ * Refusals: 1, 2, 3, 4, then blank, 5, 6, 7 (starts, picks, clusters or an order list too short), 13. At 13 the pick lists and clusters are filled and
+ * the rest is as Report leaves it. */
 uint32_t baithrum_frame(float lx, float ly, float lz, float hx, float hy, float hz, const float *solutes, size_t solutes_len,
                         size_t per, const uint32_t *indices, size_t indices_len, const float *waters, size_t waters_len,
                         uint32_t *starts, size_t starts_len, uint32_t *picks, size_t picks_len,

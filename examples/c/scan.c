@@ -1,25 +1,25 @@
-/* Reads a block from standard input (docs/MANUAL.md, 'A block'), selects, scans its rows and prints the three fractions.
+/* Reads a block from standard input (docs/RULES.md, 'Program `frame`'), selects, scans its rows and prints the three fractions.
  * Built by examples/c/build. */
 #include <stdio.h>
-#include <string.h>
 
-#include "../../include/baithrum.h"
+#include "baithrum.h"
 
-enum { BLOCK = 60000, HEAD = 46, WORDS = (BLOCK - HEAD) / 4, COPIES = 4096, PICKS = 65536 };
+enum { BLOCK = 60000, HEAD = 46, WORDS = (BLOCK - HEAD) / 4 };
+
+/* enough for every block */
+enum {
+    STARTS = BAITHRUM_STARTS(BAITHRUM_MAX_COPIES),
+    PICKS = BAITHRUM_MAX_PICKS,
+    TABLE = BAITHRUM_CLUSTER_WORDS(BAITHRUM_MAX_COPIES)
+};
 
 static unsigned char block[BLOCK + 1];
-static uint32_t indices[WORDS], starts[COPIES + 1], picks[PICKS], table[2 + 3 * COPIES];
+static uint32_t indices[WORDS], starts[STARTS], picks[PICKS], table[TABLE];
 static float solutes[WORDS];
 
 static uint32_t word(size_t at) {
     const unsigned char *p = block + at;
     return p[0] | (uint32_t)p[1] << 8 | (uint32_t)p[2] << 16 | (uint32_t)p[3] << 24;
-}
-
-static float real(uint32_t bits) {
-    float x;
-    memcpy(&x, &bits, sizeof x);
-    return x;
 }
 
 static int refused(const char *call, uint32_t number) {
@@ -37,30 +37,31 @@ int main(void) {
         return refused("block", BAITHRUM_BLOCK);
     float c[6];
     for (size_t i = 0; i < 6; i++)
-        c[i] = real(word(22 + 4 * i));
+        c[i] = baithrum_float(word(22 + 4 * i));
     for (size_t i = 0; i < k; i++)
         indices[i] = word(HEAD + 4 * i);
     for (size_t i = 0; i < 3 * s; i++)
-        solutes[i] = real(word(HEAD + 4 * k + 4 * i));
+        solutes[i] = baithrum_float(word(HEAD + 4 * k + 4 * i));
 
-    uint32_t kept[2], fractions[3], number;
-    number = baithrum_select(solutes, 3 * s, per, indices, k, starts, COPIES + 1, picks, PICKS, kept, 2);
+    uint32_t kept[BAITHRUM_SELECT_ANSWERS], fractions[BAITHRUM_CLOSE_ANSWERS], number;
+    number = baithrum_select(solutes, 3 * s, per, indices, k, starts, STARTS, picks, PICKS, kept, BAITHRUM_SELECT_ANSWERS);
     if (number != 0)
         return refused("select", number);
-    size_t n = kept[0];
-    number = baithrum_open(table, 2 + 3 * COPIES, n);
+    size_t n = kept[BAITHRUM_SELECT_COPIES], p = kept[BAITHRUM_SELECT_PICKS];
+    number = baithrum_open(table, TABLE, n);
     if (number != 0)
         return refused("open", number);
     for (size_t i = 0; i < n; i++) {
-        number = baithrum_row(c[0], c[1], c[2], c[3], c[4], c[5], solutes, 3 * s, starts, n + 1, picks, kept[1],
-                              table, 2 + 3 * n, i);
+        number = baithrum_row(c[0], c[1], c[2], c[3], c[4], c[5], solutes, 3 * s, starts, BAITHRUM_STARTS(n), picks, p,
+                              table, BAITHRUM_CLUSTER_WORDS(n), i);
         if (number != 0)
             return refused("row", number);
     }
-    number = baithrum_close(table, 2 + 3 * n, fractions, 3);
+    number = baithrum_close(table, BAITHRUM_CLUSTER_WORDS(n), fractions, BAITHRUM_CLOSE_ANSWERS);
     if (number != 0)
         return refused("close", number);
-    printf("copies %u, picks %u, contacts %u\n", (unsigned)n, (unsigned)kept[1], (unsigned)table[1]);
-    printf("largest %.9g\ncontacted %.9g\npair %.9g\n", real(fractions[0]), real(fractions[1]), real(fractions[2]));
+    printf("copies %u, picks %u, contacts %u\n", (unsigned)n, (unsigned)p, (unsigned)table[BAITHRUM_CLUSTER_CONTACTS]);
+    printf("largest %.9g\ncontacted %.9g\npair %.9g\n", baithrum_float(fractions[BAITHRUM_CLOSE_LARGEST]),
+           baithrum_float(fractions[BAITHRUM_CLOSE_CONTACTED]), baithrum_float(fractions[BAITHRUM_CLOSE_PAIR]));
     return 0;
 }

@@ -1,6 +1,6 @@
 // Makes the vector files floor32.txt, round32.txt, widen.txt and narrow.txt: INPUTHEX OUTPUTHEX lines, inputs distinct.
 // The answers are those of the C library and of the compiler's own conversions, never of the crate under test; only a NaN's
-// bits come from the rule of document 01. To make the files anew, from the folder of the crate:
+// bits come from docs/RULES.md, 'Numbers'. To make the files anew, from the folder of the crate:
 //
 //     gcc -std=c11 -O1 -fno-builtin -Wall -Wextra make/vectors.c -lm && ./a.out data && rm a.out
 #include <gnu/libc-version.h>
@@ -10,7 +10,7 @@
 #include <stdlib.h>
 #include <string.h>
 
-// Floats and their bits. Every NaN gives the bits that document 01 names.
+// Floats and their bits. Every NaN gives the bits that docs/RULES.md names.
 
 static float float_of(uint32_t b) { float x; memcpy(&x, &b, sizeof x); return x; }
 static double double_of(uint64_t b) { double x; memcpy(&x, &b, sizeof x); return x; }
@@ -198,7 +198,7 @@ static void make(const char *folder, const char *name, const char *about, const 
     fprintf(out, "# %s: INPUTHEX OUTPUTHEX, inputs distinct.\n", about);
     fprintf(out, "# Source of the answers: %s, by make/vectors.c (gcc %s, glibc %s);\n", source, __VERSION__,
         gnu_get_libc_version());
-    fprintf(out, "# for a NaN, the positive quiet NaN of document 01.\n");
+    fprintf(out, "# for a NaN, the positive quiet NaN of docs/RULES.md.\n");
     inputs();
     if (fclose(out)) { perror(path); exit(1); }
     printf("%s: %d\n", name, count);
