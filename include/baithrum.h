@@ -29,7 +29,8 @@
  *   another, and fesetround sets one: answers may change then. Where invalid or inexact is trapped, a call may end in SIGFPE. A call leaves the
  *   state as it is, but for flags, which ordinary frames set. _mm_setcsr(0x1F80) before a call mends all of these.
  * - The stack has room, beside the lent tables. The least on which a call answers, measured (measure/run stack), in bytes: Select, Open and
- *   Centers under 500 (the first call that binds memcpy or memset lazily 3,400), Row 8,896, Close 24,736, Dispersion 49,888, Tree 1,176,080, Report 1,176,512, the whole frame 1,291,952.
+ *   Centers under 500 (where the call is the first to bind memcpy or memset lazily, 3,400), Row 8,896, Close 24,736, Dispersion 49,888,
+ *   Tree 1,176,080, Report 1,176,512, the whole frame 1,291,952.
  */
 #ifndef BAITHRUM_H
 #define BAITHRUM_H
@@ -228,7 +229,8 @@ uint32_t baithrum_select(const float *solutes, size_t solutes_len, size_t per, c
                          uint32_t *answers, size_t answers_len);
 
 /* Row, Centers, Dispersion, Tree and Report take the pick lists exactly: starts_len is kept copies + 1, picks_len the picks. 8 is refused
- * unless starts begins at 0, rises strictly, has n + 1 words with n at most 4,096 and ends at picks_len, at most 65,536, and each pick names a finite atom. */
+ * unless starts begins at 0, rises strictly, has n + 1 words with n at most 4,096 and ends at picks_len, at most 65,536, and each pick names
+ * a finite atom. */
 
 /* Open: a cluster table of n copies with no contact.
  * Writes 2 + 3n words: n, contacts 0, then n parents (each copy its own), n degrees 0, n marks 0.
@@ -294,8 +296,8 @@ uint32_t baithrum_report(float lx, float ly, float lz, float hx, float hy, float
  * dry leaves.
  * A frame is blank if the cell is not valid, a coordinate list is empty, no copy is kept or no water is finite. It is no refusal: the
  * result is 0, the first answer is 1, the others are 0, and no other table is changed. Otherwise the first answer is 0.
- * Refusals: 1, 2, 3, 4, then blank, 5, 6, 7 (starts, picks, clusters or an order list too short), 13. At 13 the pick lists and clusters are filled and
- * the rest is as Report leaves it. */
+ * Refusals: 1, 2, 3, 4, then blank, 5, 6, 7 (starts, picks, clusters or an order list too short), 13. At 13 the pick lists and clusters are
+ * filled and the rest is as Report leaves it. */
 uint32_t baithrum_frame(float lx, float ly, float lz, float hx, float hy, float hz, const float *solutes, size_t solutes_len,
                         size_t per, const uint32_t *indices, size_t indices_len, const float *waters, size_t waters_len,
                         uint32_t *starts, size_t starts_len, uint32_t *picks, size_t picks_len,

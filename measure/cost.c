@@ -30,8 +30,8 @@ static void line(const char *copies) {
     double tree = timed("tree", call_tree, BAITHRUM_DONE);
     double report = timed("report", call_report, BAITHRUM_DONE);
     double frame = timed("frame", call_frame, BAITHRUM_DONE);
-    printf("| %zu | %zu | %g | %s | %u | %.4f | %.3f | %.3f | %.3f | %.3f | %.3f |\n", t.n, t.per, t.cell[3], copies, contacts, slowest, rows, dispersion,
-           tree, report, frame);
+    printf("| %zu | %zu | %g | %s | %u | %.4f | %.3f | %.3f | %.3f | %.3f | %.3f |\n", t.n, t.per, t.cell[3], copies, contacts, slowest,
+           rows, dispersion, tree, report, frame);
     fflush(stdout);
 }
 

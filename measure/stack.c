@@ -1,6 +1,6 @@
 /* The least stack on which each call answers, found by trying: a call runs in a child, on a stack of so many bytes below which nothing can
- * be read or written. Prints a markdown table. Bytes are counted from the caller's stack pointer at the call: arguments that go by the
- * stack and the return address are among them. */
+ * be read or written. Prints a markdown table. The caller that is counted with each call does nothing but make it, so that the bytes are
+ * arguments that go by the stack, return addresses, and the call's own. */
 #define _GNU_SOURCE
 #include <sys/mman.h>
 #include <sys/resource.h>

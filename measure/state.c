@@ -1,5 +1,6 @@
-/* What the floating-point state does to answers: prints a line of a markdown table. The first argument is the state, `plain` for the one that the
- * program was linked to start with, `upward` for rounding upward, `trapped` for the invalid exception trapped; the second is what the line is called. */
+/* What the floating-point state does to answers: prints a line of a markdown table. The first argument is the state, `plain` for the one that
+ * the program was linked to start with, `upward` for rounding upward, `trapped` for the invalid exception trapped; the second is what the
+ * line is called. */
 #define _GNU_SOURCE
 #include <fenv.h>
 #include <sys/wait.h>
