@@ -3,7 +3,7 @@
 
 enum { SEEDS = 9 };
 
-/* Copies in pairs that stand 0.1 apart, so that nearly every box divides down to the least side. */
+/* Copies in pairs that stand at most 0.05 apart on each axis, so that nearly every box divides down to the least side. */
 static void pair_up(size_t n) {
     spread_copies(n, 1);
     for (size_t i = 1; i < n; i += 2)

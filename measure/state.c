@@ -1,6 +1,6 @@
 /* What the floating-point state does to answers: prints a line of a markdown table. The first argument is the state, `plain` for the one that
- * the program was linked to start with, `upward` for rounding upward, `trapped` for the invalid exception trapped; the second is what the
- * line is called. */
+ * the program was linked to start with, `reset` for MXCSR set to 1F80, `upward` for rounding upward, `invalid` and `inexact` for that exception
+ * trapped; the second is what the line is called. */
 #define _GNU_SOURCE
 #include <fenv.h>
 #include <sys/wait.h>
@@ -47,8 +47,12 @@ int main(int count, char **words) {
     const char *state = words[1];
     if (strcmp(state, "upward") == 0)
         fesetround(FE_UPWARD);
-    if (strcmp(state, "trapped") == 0)
+    if (strcmp(state, "invalid") == 0)
         feenableexcept(FE_INVALID);
+    if (strcmp(state, "inexact") == 0)
+        feenableexcept(FE_INEXACT);
+    if (strcmp(state, "reset") == 0)
+        _mm_setcsr(0x1f80);
     unsigned mxcsr = _mm_getcsr();
     printf("| %s | %04X | ", words[2], mxcsr & ~FLAGS);
     fflush(stdout);

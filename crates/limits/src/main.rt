@@ -1,5 +1,5 @@
-// Runs Select and the tests of a frame at each limit and past it (by one; of picks by one copy's), and prints what each answered beside what docs/RULES.md says:
-// a refusal's number, or 0. The expected answers were worked out from the rules, by hand. Every atom is at the origin,
+// Runs Select and the tests of a frame at each limit and past it (by one; of picks by one copy's), and prints what each answered beside what
+// docs/RULES.md says: a refusal's number, or 0. The expected answers were worked out from the rules, by hand. Every atom is at the origin,
 // unless a case says otherwise.
 use cell::Cell;
 use cell::Vec3;
