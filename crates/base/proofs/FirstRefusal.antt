@@ -3,6 +3,7 @@ use mathlib.Core.Path.{_≡_, refl}
 use mathlib.Core.Bool.{Bool, true, false, cond, not, _&&_, and-eq-true-iff}
 use mathlib.Core.List.{List, [], _∷_, _++_}
 use Prim.Native.Nat.{ℕ, zero, suc}
+use native.Mathlib.Omega.{arith}
 use lib.Dec.{eqb}
 use borrow.Author.Tests.{eq-eqb, ne-eqb, not-true}
 use Rattle.base.specs.Refusals.{Refusal, firstRefusal}
@@ -53,6 +54,14 @@ append-skip rs ss n e = rw (first-append rs ss n, eq-eqb (firstRefusal rs) 0 e)
 
 pub append-hit : (rs ss : List Refusal) → numbered rs ≡ true → (firstRefusal rs ≡ 0 → ⊥) → firstRefusal (rs ++ ss) ≡ firstRefusal rs
 append-hit rs ss n e = rw (first-append rs ss n, ne-eqb (firstRefusal rs) 0 e)
+
+-- a number that is 0, or has another for its own, is 0 where the other is
+pub zero-of : (m n : ℕ) → ((m ≡ 0 → ⊥) → n ≡ m) → n ≡ 0 → m ≡ 0
+zero-of zero n h e = refl
+zero-of (suc m) n h e = absurd (omega (arith, h (λ z. omega arith), e))
+
+pub append-none : (rs ss : List Refusal) → numbered rs ≡ true → firstRefusal (rs ++ ss) ≡ 0 → firstRefusal rs ≡ 0
+append-none rs ss n e = zero-of (firstRefusal rs) (firstRefusal (rs ++ ss)) (append-hit rs ss n) e
 
 -- ---- a value or a table after a call, by the number that the call answers
 pub at-refusal : {A : Type 0} (r : ℕ) (x y : A) → (r ≡ 0 → ⊥) → unlessRefused r x y ≡ y

@@ -2,23 +2,24 @@
 -- A picked atom has k = 20, and a sum of many images has a larger one. The sides are above 2 ^ -23 and 2 ^ 17 at most; what carries the bound through
 -- `side * whole (x / side)` is that it is twice x and once the side at most, however small the side is. Assumes nothing.
 use mathlib.Core.Path.{_≡_, sym, ap, _∙_, subst}
-use mathlib.Core.Bool.{true, _&&_}
+use mathlib.Core.Bool.{true, false, _&&_, true≢false}
 use Prim.Native.Nat.{ℕ, zero, suc, _+_, _*_, _^_, _≤_, _<_}
 use native.Mathlib.Nat.{le-of-eq, le-of-suc-le-suc, not-suc-le-zero, lt-of-le-of-lt, lt-of-lt-of-le, mul-assoc, mul-comm, mul-left-comm, mul-le-mul-right, mul-lt-mul-of-pos-left, mul-pos, pow-succ', zero-mul, zero-lt-suc}
 use native.Mathlib.Omega.{arith}
 use lib.Dec.{T, lit≤}
 use lib.Pow.{pow-add, pow-pos, pow-mono}
-use lib.Ieee.{Float, nan, inf, fin, binary32, up, down, add, sub, mul, div}
+use lib.Ieee.{Float, nan, inf, fin, binary32, up, down, add, sub, mul, div, lt, ofBits}
 use lib.Ieee.Fits.{down-pos, and-i}
 use lib.Ieee.Bits.{is-true}
 use lib.Ieee.Scale.{finite}
+use borrow.Author.Tests.{ltb-true}
 use Rattle.floats.specs.Whole.{floorOf, roundOf}
 use Rattle.floats.proofs.Bounds.{Within, Exact, exact-pow, mul-within, add-within, sub-within, within-more}
 use Rattle.floats.proofs.Image.{Keeps, Nonzero, Ratio, round-keeps, floor-keeps, image-within}
 use Rattle.floats.proofs.Quotients.{within-finite}
 use Rattle.cell.specs.declared.Vec3.{Vec3}
 use Rattle.cell.specs.declared.Cell.{Cell}
-use Rattle.cell.specs.Cell.{wrapAxis, imageAxis, extentOf, wrap, minImage, squared, minus, distance2, volumeOf, finitePoint}
+use Rattle.cell.specs.Cell.{wrapAxis, imageAxis, validAxis, extentOf, wrap, minImage, squared, minus, distance2, volumeOf, finitePoint}
 
 -- ---- bounds that are powers of two
 pub pow-more : (x : Float) (j k : ℕ) → j ≤ k → Within (2 ^ j) x → Within (2 ^ k) x
@@ -69,8 +70,19 @@ pub record Around (k : ℕ) (p : Vec3) : Type 0 where
   pub on-y : Within (2 ^ k) (p .y)
   pub on-z : Within (2 ^ k) (p .z)
 
+-- an extent of a valid cell
+pub valid-above : (e : Float) → validAxis e ≡ true → Above e
+unfolding validAxis lt ofBits
+valid-above nan v = absurd (true≢false (sym v))
+valid-above (inf s) v = absurd (true≢false (sym v))
+valid-above (fin true n d) v = absurd (true≢false (sym v))
+valid-above (fin false n d) v = turned (down d) (n * up d) (ltb-true (1 * down d) (n * up d * 2 ^ 23) v)
+  where
+    turned : (a b : ℕ) → 1 * a < b * 2 ^ 23 → a < 2 ^ 23 * b
+    turned a b p = omega arith
+
 -- ---- one axis
-nonzero : (y : Float) → Above y → Nonzero y
+pub nonzero : (y : Float) → Above y → Nonzero y
 nonzero nan h = h
 nonzero (inf s) h = h
 nonzero (fin s zero d) h = absurd (clash (0 * up d) (down d) (zero-mul (up d)) h)

@@ -2,21 +2,21 @@
 -- Such a value is its own rounding, and equal fractions round to equal numbers. An `eq` counts the two zeros as one. Assumes nothing.
 use mathlib.Core.Path.{_≡_, refl, sym, ap, ap₂, _∙_}
 use Prim.Native.Nat.{ℕ, zero, suc, _+_, _-_, _*_, _<_}
-use native.Mathlib.Nat.{zero-lt-suc, add-zero, sub-zero, one-mul, mul-one, zero-mul, mul-pos}
+use native.Mathlib.Nat.{zero-lt-suc, add-zero, sub-zero, one-mul, mul-one, zero-mul, mul-zero, mul-pos}
 use native.Mathlib.Omega.{arith}
 use mathlib.Core.Bool.{Bool, true, false, not, _||_, cond}
 use lib.IntN.{ℤ, pos}
 use lib.Dec.{T, ltb, ltb→lt, lt→ltb}
 use lib.Ieee.{Float, nan, inf, fin, Format, unlike, up, down, round, neg, sum, add, sub, mul, div, eq, fits}
-use lib.Ieee.Fits.{up-pos}
+use lib.Ieee.Fits.{up-pos, down-pos}
 use lib.Ieee.Bits.{is-true}
 use lib.Ieee.Scale.{finite}
 use lib.Ieee.Positive.{num, den, den-pos}
 use Rattle.floats.specs.Standard.{gain, loss, sign}
 use Rattle.floats.proofs.Signs.{same-sign}
-use Rattle.floats.proofs.SameValue.{same-value, own-round}
+use Rattle.floats.proofs.SameValue.{same-value, own-round, round-none}
 use Rattle.floats.proofs.Signed.{G, L, Rounded, rounded-eq}
-use Rattle.floats.proofs.Operations.{add-rounded, sub-rounded, product-rounded, Nonzero, Gʳ, Lʳ, quotient-rounded, own-rounded}
+use Rattle.floats.proofs.Operations.{add-rounded, sub-rounded, product-rounded, div-is, Nonzero, Gʳ, Lʳ, quotient-rounded, own-rounded}
 
 -- ---- the law: w is (g - l) / c
 abbrev pub Is : Float → ℕ → ℕ → ℕ → Type 0
@@ -129,6 +129,22 @@ minus-zero f (fin s m e) F = with-zero f s m e true F (either s)
     either : (b : Bool) → T (not b || true)
     either true = tt
     either false = tt
+
+-- ---- of zeros: a quotient and a product are zeros with their sign, and +0 less a zero is +0
+pub over-none : (f : Format) (s t : Bool) (n : ℕ) (d : ℤ) → 0 < n → div f (fin s 0 (pos 0)) (fin t n d) ≡ fin (unlike s t) 0 (pos 0)
+over-none f s t n d h =
+    div-is f s 0 (pos 0) t n d h ∙ ap (λ (a : ℕ). round f (unlike s t) a (n * up d * 1)) (zero-mul (down d))
+    ∙ round-none f (unlike s t) (n * up d * 1) (mul-pos (mul-pos h (up-pos d)) (zero-lt-suc 0))
+
+pub times-none : (f : Format) (s : Bool) (m : ℕ) (e : ℤ) (t : Bool) → mul f (fin s m e) (fin t 0 (pos 0)) ≡ fin (unlike s t) 0 (pos 0)
+unfolding mul
+times-none f s m e t =
+    ap (λ (a : ℕ). round f (unlike s t) a (down e * 1)) (mul-zero (m * up e)) ∙ round-none f (unlike s t) (down e * 1) (mul-pos (down-pos e) (zero-lt-suc 0))
+
+pub less-none : (f : Format) (t : Bool) → sub f (fin false 0 (pos 0)) (fin t 0 (pos 0)) ≡ fin false 0 (pos 0)
+unfolding sub add sum neg
+less-none f true = round-none f false 1 (zero-lt-suc 0)
+less-none f false = round-none f false 1 (zero-lt-suc 0)
 
 -- ---- x - x is 0 exactly where x is finite
 pub finite-test : (f : Format) (x : Float) → eq (sub f x x) (fin false 0 (pos 0)) ≡ finite x

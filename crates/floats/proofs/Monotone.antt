@@ -2,7 +2,7 @@
 -- value above zero, rounding to a whole number, and squares. And adding what is not negative never goes below a summand that is a value of the
 -- format. Assumes nothing.
 pub use Rattle.floats.proofs.FloorOrder.{floor-mono-whole}
-use mathlib.Core.Path.{_≡_, refl, sym, subst}
+use mathlib.Core.Path.{_≡_, sym, subst}
 use Prim.Native.Nat.{ℕ, _+_, _*_, _≤_, _<_}
 use native.Mathlib.Nat.{le-trans, le-of-eq, add-le-add, mul-pos, mul-le-mul-right}
 use native.Mathlib.Omega.{arith}
@@ -17,6 +17,7 @@ use Rattle.floats.proofs.Fractions.{half-mono, half-none}
 use Rattle.floats.proofs.Signs.{plain, plain-round, neg-finite}
 use Rattle.floats.proofs.Signed.{G, L, Below, le→Le, neg-le, no-more, Rounded, rounded-le}
 use Rattle.floats.proofs.Operations.{add-rounded, sub-rounded, product-rounded, quotient-rounded, own-rounded}
+use Rattle.floats.proofs.Negation.{square-neg}
 use Rattle.floats.proofs.WholeSizes.{roundSize, round-rounds, rounds-mono}
 
 -- ---- sums and differences: the two orders, each times the other's denominators
@@ -153,14 +154,6 @@ add-plain f (fin false m e) (fin false n d) p q a b = plain-round f (m * up e * 
 -- ---- a square: larger where the value is farther from zero, on either side
 abbrev pub square : Format → Float → Float
 square f x = mul f x x
-
-pub square-neg : (f : Format) (x : Float) → mul f (neg x) (neg x) ≡ mul f x x
-unfolding mul neg
-square-neg f nan = refl
-square-neg f (inf true) = refl
-square-neg f (inf false) = refl
-square-neg f (fin true m e) = refl
-square-neg f (fin false m e) = refl
 
 pub square-plain : (f : Format) (x : Float) → T (finite x) → T (plain (mul f x x))
 unfolding mul

@@ -1,21 +1,20 @@
--- The minus sign goes through every operation. Through products, quotients, rounding to a whole number and narrowing it does so bit for bit.
--- Through sums and differences it does so as a number: x less x and -x less -x are both +0, where the opposite of +0 is -0, and `eq` counts the two
--- zeros as one. Assumes nothing.
-use mathlib.Core.Path.{_≡_, refl, sym, ap, ap₂, _∙_, subst}
-use Prim.Native.Nat.{ℕ, _+_, _*_, _<_}
+-- The minus sign goes through every operation, of any values, NaN and infinities included. Through products, quotients, rounding to a whole number
+-- and narrowing it does so bit for bit. Through sums and differences it does but for a zero: x less x and -x less -x are both +0, where the opposite
+-- of +0 is -0. Assumes nothing.
+use mathlib.Core.Path.{_≡_, refl, sym, ap, _∙_, subst}
+use mathlib.Core.Logic.{_⊎_, inl, inr}
+use Prim.Native.Nat.{ℕ, _+_, _-_, _*_, _≤_, _<_}
 use native.Mathlib.Nat.{add-comm, mul-comm, mul-pos}
+use native.Mathlib.Omega.{arith}
 use mathlib.Core.Bool.{Bool, true, false, not, cond}
 use lib.IntN.{pos}
-use lib.Dec.{T, eqb}
-use lib.Ieee.{Float, nan, inf, fin, Format, unlike, up, down, round, neg, add, sub, mul, div, eq}
-use lib.Ieee.Scale.{finite}
-use lib.Ieee.Positive.{den, den-pos}
+use lib.Dec.{T, ltb, eqb, ltb→lt, nltb→le, eqb-refl}
+use lib.Ieee.{Float, nan, inf, fin, Format, unlike, up, down, round, neg, sum, add, sub, mul, div, eq, isNan}
+use lib.Ieee.Fits.{down-pos, and-i}
 use Rattle.floats.specs.Whole.{halfUp, roundOf}
 use Rattle.floats.specs.Convert.{narrowOf}
-use Rattle.floats.specs.Standard.{gain, loss}
-use Rattle.floats.proofs.Signs.{neg-neg, round-neg, neg-finite}
-use Rattle.floats.proofs.Signed.{G, L, Rounded, rounded-eq}
-use Rattle.floats.proofs.Operations.{add-rounded, sub-rounded}
+use Rattle.floats.proofs.Signs.{neg-neg, round-neg}
+use Rattle.floats.proofs.SameValue.{round-none}
 
 unlike-left : (s t : Bool) → unlike (not s) t ≡ not (unlike s t)
 unlike-left false false = refl
@@ -100,60 +99,105 @@ narrow-neg f nan = refl
 narrow-neg f (inf s) = refl
 narrow-neg f (fin s m e) = round-neg f s (m * up e) (down e)
 
--- ---- sums and differences: gain and loss change places
-pub rounded-neg : (f : Format) (z : Float) (g l c : ℕ) → Rounded f z g l c → Rounded f (neg z) l g c
-rounded-neg f z g l c r = record { s = not (r .s); k = r .k; is = ap neg (r .is) ∙ sym (round-neg f (r .s) (r .k) c); val = turned (r .s) (r .k) (r .val) }
-  where
-    turned : (s : Bool) (k : ℕ) → gain s k + l ≡ loss s k + g → gain (not s) k + g ≡ loss (not s) k + l
-    turned false k h = sym h
-    turned true k h = sym h
+-- ---- squares do not know the sign
+pub square-neg : (f : Format) (x : Float) → mul f (neg x) (neg x) ≡ mul f x x
+square-neg f x = mul-neg-left f x (neg x) ∙ ap neg (mul-neg-right f x x) ∙ neg-neg (mul f x x)
 
-G-neg : (x : Float) → G (neg x) ≡ L x
-unfolding neg
-G-neg nan = refl
-G-neg (inf true) = refl
-G-neg (inf false) = refl
-G-neg (fin true m e) = refl
-G-neg (fin false m e) = refl
+-- ---- sums and differences
+-- w is z turned: its opposite bit for bit, or both are +0
+abbrev pub Turned : Float → Float → Type 0
+Turned z w = (w ≡ neg z) ⊎ ((z ≡ fin false 0 (pos 0)) × (w ≡ fin false 0 (pos 0)))
 
-L-neg : (x : Float) → L (neg x) ≡ G x
-L-neg x = sym (G-neg (neg x)) ∙ ap G (neg-neg x)
+turned-back : {z w : Float} → Turned z w → Turned w z
+turned-back {z} {w} (inl h) = inl (sym (neg-neg z) ∙ ap neg (sym h))
+turned-back (inr (h, k)) = inr (k, h)
 
-den-neg : (x : Float) → den (neg x) ≡ den x
-unfolding neg
-den-neg nan = refl
-den-neg (inf s) = refl
-den-neg (fin s m e) = refl
+module _ (f : Format) (a b c : ℕ) where
+  -- a less b, by the two tests of their order
+  less : 0 < c → (x y : Bool) → (T (not x) → b ≤ a) → (T (not y) → a ≤ b)
+      → Turned (cond x (round f true (b - a) c) (round f false (a - b) c)) (cond x (round f false (b - a) c) (round f y (a - b) c))
+  less C true y h k = inl (round-neg f true (b - a) c)
+  less C false true h k = inl (round-neg f false (a - b) c)
+  less C false false h k =
+      let same : a - b ≡ 0 = omega (arith, h tt, k tt) in
+      let none : round f false (a - b) c ≡ fin false 0 (pos 0) = ap (λ (n : ℕ). round f false n c) same ∙ round-none f false c C in
+      inr (none, none)
 
-opposite : (f : Format) (z : Float) (g l c : ℕ) (z' : Float) (g' l' c' : ℕ) → 0 < c → Rounded f z g l c → Rounded f z' g' l' c' → g ≡ l' → l ≡ g'
-    → c ≡ c' → T (eq z (neg z'))
-opposite f z g l c z' g' l' c' C r r' i j k =
-    rounded-eq f z g l c (neg z') l' g' c' C (subst (λ (x : ℕ). 0 < x) k C) r (rounded-neg f z' g' l' c' r')
-    (ap₂ (λ (x y : ℕ). x + y) (ap₂ (λ (x y : ℕ). x * y) i (sym k)) (ap₂ (λ (x y : ℕ). x * y) (sym j) k))
+  less-swap : (x y : Bool) → (T x → a < b) → (T y → b < a) → (T (not x) → b ≤ a) → (T (not y) → a ≤ b)
+      → cond x (round f true (b - a) c) (round f false (a - b) c) ≡ cond y (round f false (a - b) c) (round f x (b - a) c)
+  less-swap true true h k h' k' = absurd (omega (arith, h tt, k tt))
+  less-swap true false h k h' k' = refl
+  less-swap false true h k h' k' = refl
+  less-swap false false h k h' k' = let same : a - b ≡ b - a = omega (arith, h' tt, k' tt) in ap (λ (n : ℕ). round f false n c) same
 
--- a / c + b / d from its parts
-parts : {a a' b b' c c' d d' : ℕ} → a ≡ a' → d ≡ d' → b ≡ b' → c ≡ c' → a * d + b * c ≡ a' * d' + b' * c'
-parts i j k l = ap₂ (λ (x y : ℕ). x + y) (ap₂ (λ (x y : ℕ). x * y) i j) (ap₂ (λ (x y : ℕ). x * y) k l)
+sum-neg : (f : Format) (s : Bool) (a : ℕ) (t : Bool) (b c : ℕ) → 0 < c → Turned (sum f s a t b c) (sum f (not s) a (not t) b c)
+unfolding sum
+sum-neg f false a false b c C = inl (round-neg f false (a + b) c)
+sum-neg f true a true b c C = inl (round-neg f true (a + b) c)
+sum-neg f false a true b c C = less f a b c C (ltb a b) (ltb b a) (nltb→le a b) (nltb→le b a)
+sum-neg f true a false b c C = turned-back (less f a b c C (ltb a b) (ltb b a) (nltb→le a b) (nltb→le b a))
 
-pub add-neg : (f : Format) (x y : Float) → T (finite x) → T (finite y) → T (eq (add f (neg x) (neg y)) (neg (add f x y)))
-add-neg f x y p q =
-    opposite f (add f (neg x) (neg y)) (G (neg x) * den (neg y) + G (neg y) * den (neg x)) (L (neg x) * den (neg y) + L (neg y) * den (neg x))
-    (den (neg x) * den (neg y))
-    (add f x y) (G x * den y + G y * den x) (L x * den y + L y * den x) (den x * den y)
-    (mul-pos (den-pos (neg x)) (den-pos (neg y))) (add-rounded f (neg x) (neg y) (neg-finite x p) (neg-finite y q)) (add-rounded f x y p q)
-    (parts (G-neg x) (den-neg y) (G-neg y) (den-neg x)) (parts (L-neg x) (den-neg y) (L-neg y) (den-neg x)) (ap₂ (λ (u v : ℕ). u * v) (den-neg x) (den-neg y))
+sum-swap : (f : Format) (s : Bool) (a : ℕ) (t : Bool) (b c : ℕ) → sum f s a t b c ≡ sum f t b s a c
+unfolding sum
+sum-swap f false a false b c = ap (λ (n : ℕ). round f false n c) (add-comm a b)
+sum-swap f true a true b c = ap (λ (n : ℕ). round f true n c) (add-comm a b)
+sum-swap f false a true b c = less-swap f a b c (ltb a b) (ltb b a) (ltb→lt a b) (ltb→lt b a) (nltb→le a b) (nltb→le b a)
+sum-swap f true a false b c = sym (less-swap f b a c (ltb b a) (ltb a b) (ltb→lt b a) (ltb→lt a b) (nltb→le b a) (nltb→le a b))
 
-pub sub-neg : (f : Format) (x y : Float) → T (finite x) → T (finite y) → T (eq (sub f (neg x) (neg y)) (neg (sub f x y)))
-sub-neg f x y p q =
-    opposite f (sub f (neg x) (neg y)) (G (neg x) * den (neg y) + L (neg y) * den (neg x)) (L (neg x) * den (neg y) + G (neg y) * den (neg x))
-    (den (neg x) * den (neg y))
-    (sub f x y) (G x * den y + L y * den x) (L x * den y + G y * den x) (den x * den y)
-    (mul-pos (den-pos (neg x)) (den-pos (neg y))) (sub-rounded f (neg x) (neg y) (neg-finite x p) (neg-finite y q)) (sub-rounded f x y p q)
-    (parts (G-neg x) (den-neg y) (L-neg y) (den-neg x)) (parts (L-neg x) (den-neg y) (G-neg y) (den-neg x)) (ap₂ (λ (u v : ℕ). u * v) (den-neg x) (den-neg y))
+pub add-swap : (f : Format) (x y : Float) → add f x y ≡ add f y x
+unfolding add
+add-swap f nan nan = refl
+add-swap f nan (inf t) = refl
+add-swap f nan (fin t n d) = refl
+add-swap f (inf s) nan = refl
+add-swap f (inf true) (inf true) = refl
+add-swap f (inf true) (inf false) = refl
+add-swap f (inf false) (inf true) = refl
+add-swap f (inf false) (inf false) = refl
+add-swap f (inf s) (fin t n d) = refl
+add-swap f (fin s m e) nan = refl
+add-swap f (fin s m e) (inf t) = refl
+add-swap f (fin s m e) (fin t n d) =
+    sum-swap f s (m * up e * down d) t (n * up d * down e) (down e * down d)
+    ∙ ap (sum f t (n * up d * down e) s (m * up e * down d)) (mul-comm (down e) (down d))
 
-pub sub-swap : (f : Format) (x y : Float) → T (finite x) → T (finite y) → T (eq (sub f y x) (neg (sub f x y)))
-sub-swap f x y p q =
-    opposite f (sub f y x) (G y * den x + L x * den y) (L y * den x + G x * den y) (den y * den x) (sub f x y) (G x * den y + L y * den x)
-    (L x * den y + G y * den x) (den x * den y)
-    (mul-pos (den-pos y) (den-pos x)) (sub-rounded f y x q p) (sub-rounded f x y p q)
-    (add-comm (G y * den x) (L x * den y)) (add-comm (L y * den x) (G x * den y)) (mul-comm (den y) (den x))
+pub add-neg : (f : Format) (x y : Float) → Turned (add f x y) (add f (neg x) (neg y))
+unfolding add neg
+add-neg f nan y = inl refl
+add-neg f (inf s) nan = inl refl
+add-neg f (inf true) (inf true) = inl refl
+add-neg f (inf true) (inf false) = inl refl
+add-neg f (inf false) (inf true) = inl refl
+add-neg f (inf false) (inf false) = inl refl
+add-neg f (inf s) (fin t n d) = inl refl
+add-neg f (fin s m e) nan = inl refl
+add-neg f (fin s m e) (inf t) = inl refl
+add-neg f (fin s m e) (fin t n d) = sum-neg f s (m * up e * down d) t (n * up d * down e) (down e * down d) (mul-pos (down-pos e) (down-pos d))
+
+pub sub-neg : (f : Format) (x y : Float) → Turned (sub f x y) (sub f (neg x) (neg y))
+unfolding sub
+sub-neg f x y = add-neg f x (neg y)
+
+-- taken the other way round
+pub sub-swap : (f : Format) (x y : Float) → Turned (sub f x y) (sub f y x)
+unfolding sub
+sub-swap f x y = subst (Turned (sub f x y)) (ap (add f (neg x)) (neg-neg y) ∙ add-swap f (neg x) y) (sub-neg f x y)
+
+-- ---- what a turned value is
+itself : (x : Float) → T (not (isNan x)) → T (eq x x)
+unfolding isNan eq
+itself nan n = n
+itself (inf true) n = tt
+itself (inf false) n = tt
+itself (fin true m e) n = and-i (eqb (m * up e * down e) (m * up e * down e)) true (eqb-refl (m * up e * down e)) tt
+itself (fin false m e) n = and-i (eqb (m * up e * down e) (m * up e * down e)) true (eqb-refl (m * up e * down e)) tt
+
+-- the opposite number, the two zeros counted as one
+pub turned-number : {z w : Float} → Turned z w → T (not (isNan w)) → T (eq w (neg z))
+turned-number {z} {w} (inl h) n = subst (λ (v : Float). T (eq w v)) h (itself w n)
+turned-number (inr (h, k)) n = rw (h, k) (unfold eq neg in tt)
+
+-- the same square, bit for bit
+pub turned-square : (f : Format) {z w : Float} → Turned z w → mul f w w ≡ mul f z z
+turned-square f {z} (inl h) = ap (λ (v : Float). mul f v v) h ∙ square-neg f z
+turned-square f (inr (h, k)) = ap (λ (v : Float). mul f v v) (k ∙ sym h)

@@ -1,20 +1,24 @@
 -- Each operation on finite values is the exact result rounded: sums, differences, products and quotients, of any signs, as differences of fractions.
 -- Assumes nothing.
-use mathlib.Core.Path.{_≡_, refl, sym, ap, ap₂, _∙_}
+use mathlib.Core.Path.{_≡_, refl, sym, ap, ap₂, _∙_, subst}
 use Prim.Native.Nat.{ℕ, _+_, _-_, _*_, _≤_, _<_}
 use native.Mathlib.Nat.{le-of-eq, not-le-of-lt, add-comm, mul-comm}
 use native.Mathlib.Omega.{arith}
 use mathlib.Core.Bool.{Bool, true, false, not, cond}
 use lib.IntN.{ℤ}
 use lib.Dec.{T, ltb, eqb, ltb→lt, nltb→le, eqb→eq, not-T}
-use lib.Ieee.{Float, nan, inf, fin, Format, unlike, up, down, round, neg, sum, add, sub, mul, div, fits}
+use lib.Ieee.{Float, nan, inf, fin, Format, unlike, up, down, round, neg, sum, add, sub, mul, div, fits, isNan}
 use lib.Ieee.Bits.{cond-no}
 use lib.Ieee.Scale.{finite}
 use lib.Ieee.Positive.{num, den}
 use Rattle.floats.specs.Standard.{gain, loss, sign}
 use Rattle.floats.proofs.Differences.{gain-mul, loss-mul, gain-not, loss-not, product-val}
+use Rattle.floats.proofs.Signs.{round-number}
 use Rattle.floats.proofs.SameValue.{own-round}
 use Rattle.floats.proofs.Signed.{G, L, Rounded}
+
+rounded-number : {f : Format} {z : Float} {g l c : ℕ} → Rounded f z g l c → T (not (isNan z))
+rounded-number {f} {z} {g} {l} {c} r = subst (λ (x : Float). T (not (isNan x))) (sym (r .is)) (round-number f (r .s) (r .k) c)
 
 -- ---- sums and differences
 sum-rounded : (f : Format) (s : Bool) (a : ℕ) (t : Bool) (b c : ℕ) → Rounded f (sum f s a t b c) (gain s a + gain t b) (loss s a + loss t b) c
@@ -88,13 +92,15 @@ product-rounded f (fin s m e) nan p q = absurd q
 product-rounded f (fin s m e) (inf t) p q = absurd q
 product-rounded f (fin s m e) (fin t n d) p q = record { s = unlike s t; k = m * up e * (n * up d); is = refl; val = product-val s (m * up e) t (n * up d) }
 
+not-none : (n : ℕ) → 0 < n → T (not (eqb n 0))
+not-none n h = not-T (eqb n 0) (λ z. not-le-of-lt h (le-of-eq (eqb→eq n 0 z)))
+
 -- ---- quotients: the product with 1 / y, which is ±den y / num y
 pub div-is : (f : Format) (s : Bool) (m : ℕ) (e : ℤ) (t : Bool) (n : ℕ) (d : ℤ) → 0 < n
     → div f (fin s m e) (fin t n d) ≡ round f (unlike s t) (m * up e * down d) (n * up d * down e)
 unfolding div
 div-is f s m e t n d h =
-    cond-no (eqb n 0) (cond (eqb m 0) nan (inf (unlike s t))) (round f (unlike s t) (m * up e * down d) (n * up d * down e))
-    (not-T (eqb n 0) (λ z. not-le-of-lt h (le-of-eq (eqb→eq n 0 z))))
+    cond-no (eqb n 0) (cond (eqb m 0) nan (inf (unlike s t))) (round f (unlike s t) (m * up e * down d) (n * up d * down e)) (not-none n h)
 
 -- finite, and not zero
 abbrev pub Nonzero : Float → Type 0
@@ -128,3 +134,23 @@ pub own-rounded : (f : Format) (w : Float) → T (fits f w) → T (finite w) →
 own-rounded f nan p q = absurd q
 own-rounded f (inf s) p q = absurd q
 own-rounded f (fin s m e) p q = record { s = s; k = m * up e; is = sym (own-round f s m e p); val = add-comm (gain s (m * up e)) (loss s (m * up e)) }
+
+-- ---- no NaN: of a finite value and one that is no NaN
+pub div-number : (f : Format) (x y : Float) → T (finite x) → Nonzero y → T (not (isNan (div f x y)))
+div-number f x y p q = rounded-number (quotient-rounded f x y p q)
+
+pub mul-number : (f : Format) (x y : Float) → Nonzero x → T (not (isNan y)) → T (not (isNan (mul f x y)))
+unfolding mul isNan
+mul-number f nan y p q = absurd p
+mul-number f (inf s) y p q = absurd p
+mul-number f (fin s m e) nan p q = absurd q
+mul-number f (fin s m e) (inf t) p q = subst (λ (x : Float). T (not (isNan x))) (sym (cond-no (eqb m 0) nan (inf (unlike s t)) (not-none m p))) tt
+mul-number f (fin s m e) (fin t n d) p q = round-number f (unlike s t) (m * up e * (n * up d)) (down e * down d)
+
+pub sub-number : (f : Format) (x y : Float) → T (finite x) → T (not (isNan y)) → T (not (isNan (sub f x y)))
+unfolding sub add neg isNan
+sub-number f nan y p q = absurd p
+sub-number f (inf s) y p q = absurd p
+sub-number f (fin s m e) nan p q = absurd q
+sub-number f (fin s m e) (inf t) p q = tt
+sub-number f (fin s m e) (fin t n d) p q = rounded-number (sub-rounded f (fin s m e) (fin t n d) p tt)

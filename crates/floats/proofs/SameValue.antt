@@ -1,16 +1,16 @@
 -- A format writes a number in one way: two of its values with one sign and one size are the same data (`same-value`), so a value is its own rounding
 -- (`own-round`). For the bit pattern turns on the sign and the size alone, and a value comes back from its pattern. Assumes nothing.
 use mathlib.Core.Path.{_≡_, sym, ap, _∙_}
-use Prim.Native.Nat.{ℕ, _+_, _-_, _*_, _/_, _^_}
-use native.Mathlib.Nat.{mul-right-comm, eq-of-mul-eq-mul-right, mul-div-cancel}
+use Prim.Native.Nat.{ℕ, _+_, _-_, _*_, _/_, _^_, _<_}
+use native.Mathlib.Nat.{zero-mul, mul-right-comm, eq-of-mul-eq-mul-right, mul-div-cancel}
 use mathlib.Core.Bool.{Bool, cond}
-use lib.IntN.{ℤ}
-use lib.Dec.{T}
+use lib.IntN.{ℤ, pos}
+use lib.Dec.{T, lit<}
 use lib.Ieee.{Float, nan, inf, fin, Format, prec, low, hid, top, up, down, size, round, fits, ofBits, toBits}
 use lib.Ieee.Fits.{down-pos, round-fits}
 use lib.Ieee.Bits.{ofBits-toBits}
 use lib.Ieee.Exact.{HasValue, round-exact}
-use lib.Ieee.Scale.{finite}
+use lib.Ieee.Scale.{finite, round-same}
 use lib.Ieee.Positive.{num, den, den-pos}
 use Rattle.floats.specs.Standard.{sign}
 use Rattle.floats.proofs.Signs.{value-finite, value-parts}
@@ -57,3 +57,7 @@ own-round f s m e h =
     let v = own-value f s m e h in
     let p = value-parts z s (m * up e) (down e) v in
     same-value f z (fin s m e) (round-fits f s (m * up e) (down e)) h (value-finite z s (m * up e) (down e) v) tt (p .0) (p .1)
+
+-- and nothing is rounded to a zero
+pub round-none : (f : Format) (s : Bool) (c : ℕ) → 0 < c → round f s 0 c ≡ fin s 0 (pos 0)
+round-none f s c C = round-same f s 0 c 0 1 C (lit< tt) (zero-mul 1 ∙ sym (zero-mul c)) ∙ own-round f s 0 (pos 0) (unfold fits in tt)

@@ -3,7 +3,7 @@ use mathlib.Core.Path.{_≡_, refl, sym, ap, _∙_, subst}
 use Prim.Native.Nat.{ℕ, zero, suc, _+_, _*_, _^_}
 use mathlib.Core.Bool.{Bool, true, false, not, cond, true≢false}
 use lib.Dec.{T, ltb}
-use lib.Ieee.{Float, nan, inf, fin, Format, prec, emax, low, unlike, odd, units, round, neg}
+use lib.Ieee.{Float, nan, inf, fin, Format, prec, emax, low, unlike, odd, units, round, neg, isNan}
 use lib.Ieee.Fits.{round-is}
 use lib.Ieee.Exact.{HasValue}
 use lib.Ieee.Scale.{finite}
@@ -60,6 +60,24 @@ neg-neg (fin false m e) = refl
 pub round-neg : (f : Format) (s : Bool) (a c : ℕ) → round f (not s) a c ≡ neg (round f s a c)
 round-neg f false a c = sym (neg-round f a c)
 round-neg f true a c = sym (neg-neg (round f false a c)) ∙ ap neg (neg-round f a c)
+
+-- ---- no NaN
+neg-number : (x : Float) → T (not (isNan x)) → T (not (isNan (neg x)))
+unfolding isNan neg
+neg-number nan n = n
+neg-number (inf s) n = tt
+neg-number (fin s m e) n = tt
+
+plain-number : (x : Float) → T (plain x) → T (not (isNan x))
+unfolding isNan
+plain-number nan p = p
+plain-number (inf s) p = tt
+plain-number (fin s m e) p = tt
+
+pub round-number : (f : Format) (s : Bool) (a c : ℕ) → T (not (isNan (round f s a c)))
+round-number f false a c = plain-number (round f false a c) (plain-round f a c)
+round-number f true a c =
+    subst (λ (x : Float). T (not (isNan x))) (neg-round f a c) (neg-number (round f false a c) (plain-number (round f false a c) (plain-round f a c)))
 
 pub neg-finite : (x : Float) → T (finite x) → T (finite (neg x))
 unfolding neg

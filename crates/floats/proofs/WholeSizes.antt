@@ -2,24 +2,25 @@
 -- NaN and the infinities. What follows from that alone is said here once, for both. Assumes nothing.
 use mathlib.Core.Path.{_≡_, refl, sym, ap, _∙_, subst}
 use Prim.Native.Nat.{ℕ, suc, _-_, _*_, _/_, _^_, _≤_, _<_}
-use native.Mathlib.Nat.{le-trans, le-of-eq, le-of-lt, zero-lt-suc, mul-one, mul-le-mul-left, div-one}
+use native.Mathlib.Nat.{le-trans, le-of-lt, zero-lt-suc, mul-le-mul-left, div-one}
 use native.Mathlib.Omega.{arith}
-use mathlib.Core.Bool.{Bool, true, false}
+use mathlib.Core.Bool.{Bool, true, false, not}
 use lib.IntN.{ℤ, pos, negsuc}
 use lib.Dec.{T}
 use lib.Pow.{pow-mono}
-use lib.Ieee.{Float, nan, inf, fin, Format, prec, up, down, round, neg, mul, ofInt, le, fits}
+use lib.Ieee.{Float, nan, inf, fin, Format, prec, up, down, round, neg, mul, ofInt, le, fits, isNan}
 use lib.Ieee.Fits.{two, two-le-pos, down-pos}
 use lib.Ieee.Exact.{HasValue}
 use lib.Ieee.Back.{round-whole}
-use lib.Ieee.Scale.{finite, round-same}
+use lib.Ieee.Scale.{finite}
 use lib.Ieee.Positive.{num, den, positive}
 use Rattle.floats.specs.Whole.{ceiling, halfUp, floorOf, roundOf}
 use Rattle.floats.proofs.Powers.{pow-halved}
 use Rattle.floats.proofs.Fractions.{part-le, ceiling-le, ceiling-one, half-le, half-one}
-use Rattle.floats.proofs.Signs.{neg-round, same-sign}
+use Rattle.floats.proofs.Signs.{neg-round, round-number, same-sign}
 use Rattle.floats.proofs.Held.{fits-digits}
-use Rattle.floats.proofs.SameValue.{own-round}
+use Rattle.floats.proofs.SameValue.{own-round, round-none}
+use Rattle.floats.proofs.ExactResults.{times-none}
 use Rattle.floats.proofs.Signed.{Below, le→Le, round-le}
 use Rattle.floats.proofs.SizeTests.{zero32, ofInt-is, Large, Nothing}
 
@@ -69,10 +70,7 @@ big-whole f s m k h g =
 
 -- a value times +0 is a zero with its sign
 pub times-zero : (f : Format) (s : Bool) (m : ℕ) (e : ℤ) → mul f (fin s m e) zero32 ≡ round f s 0 1
-unfolding mul
-times-zero f s m e =
-    ap (λ (b : Bool). round f b (m * up e * (0 * 1)) (down e * 1)) (same-sign s)
-    ∙ round-same f s (m * up e * (0 * 1)) (down e * 1) 0 1 (le-trans (down-pos e) (le-of-eq (sym (mul-one (down e))))) (zero-lt-suc 0) (omega arith)
+times-zero f s m e = times-none f s m e false ∙ ap (λ (b : Bool). fin b 0 (pos 0)) (same-sign s) ∙ sym (round-none f s 1 (zero-lt-suc 0))
 
 module _ (f : Format) (σ : Bool → ℕ → ℕ → ℕ) (g : Float → Float) (r : Rounds f σ g) where
   -- ---- a whole number stays
@@ -89,6 +87,13 @@ module _ (f : Format) (σ : Bool → ℕ → ℕ → ℕ) (g : Float → Float) 
   nothing-stays nan h z = sym (r .at-nan)
   nothing-stays (inf s) h z = absurd z
   nothing-stays (fin s m e) h z = subst (λ (d : ℤ). T (fits f (fin s m d)) → fin s m d ≡ g (fin s m d)) (sym (z .1)) (whole-stays s m 0) h
+
+  -- ---- no NaN comes of what is none
+  pub rounds-number : (x : Float) → T (not (isNan x)) → T (not (isNan (g x)))
+  unfolding isNan
+  rounds-number nan n = absurd n
+  rounds-number (inf s) n = rw (r .at-inf s) tt
+  rounds-number (fin s m e) n = rw (r .at-fin s m e) (round-number f s (σ s (m * up e) (down e)) 1)
 
   -- ---- the result's value is ±σ: it has at most prec digits, or it is x itself
   pub rounds-value : (s : Bool) (m : ℕ) (e : ℤ) → T (fits f (fin s m e)) → HasValue (g (fin s m e)) s (σ s (m * up e) (down e)) 1

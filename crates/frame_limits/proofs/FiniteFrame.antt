@@ -1,26 +1,25 @@
 -- Within the limits every distance is finite (docs/RULES.md, 'Cell'): where a call's tests of its cell and coordinates refuse nothing, every wrapped point, every
 -- minimum image and every squared distance of finite atoms is finite. The bounds are 2 ^ 16 at most, the sides above 2 ^ -23 and 2 ^ 17 at most, and a finite atom's
 -- coordinates 2 ^ 20 at most; the laws of `Finite` do the rest. A bound that is not finite needs no test of its own: its extent is then not finite. Assumes nothing.
-use mathlib.Core.Path.{_≡_, refl, sym, subst}
-use mathlib.Core.Bool.{true, false, _&&_, true≢false}
+use mathlib.Core.Path.{_≡_, refl, subst}
+use mathlib.Core.Bool.{true, false, _&&_}
 use mathlib.Core.List.{List, [], _∷_}
 use Prim.Native.Nat.{ℕ, zero, suc, _+_, _*_, _^_, _≤_, _<_}
 use native.Mathlib.Nat.{one-mul, mul-one}
-use native.Mathlib.Omega.{arith}
 use lib.IntN.{pos}
 use lib.Dec.{T, ltb, lit≤, lit<}
 use lib.ListN.{getD}
 use lib.Ieee.{Float, nan, inf, fin, binary32, up, down, sub, add, neg, lt, ofBits}
 use lib.Ieee.Bits.{is-true}
 use lib.Ieee.Scale.{finite}
-use borrow.Author.Tests.{ltb-true, ltb-false}
+use borrow.Author.Tests.{ltb-false}
 use Rattle.floats.proofs.Bounds.{Within}
 use Rattle.floats.proofs.Tests.{holds, both}
 use Rattle.cell.specs.declared.Cell.{Cell}
 use Rattle.cell.specs.Cell.{epsilon, validAxis, extentOf, valid, wrap, minImage, minus, distance2, pointAt, finitePoint}
 use Rattle.frame_limits.specs.Limits.{maxBound, maxCoordinate, exceeds, anyOver, boundOver, frameRefusals}
 use Rattle.base.specs.Refusals.{firstRefusal}
-use Rattle.cell.proofs.Finite.{sub-pow, Above, Side, Sides, Around, around-finite, wrap-around, image-around, minus-around, distance-finite}
+use Rattle.cell.proofs.Finite.{sub-pow, valid-above, Side, Sides, Around, around-finite, wrap-around, image-around, minus-around, distance-finite}
 use Rattle.base.proofs.Tests.{neither}
 use Rattle.frame_limits.proofs.FrameRefusals.{frame-none}
 
@@ -50,16 +49,6 @@ sub-finite (fin s m e) nan h = absurd h
 sub-finite (fin s m e) (inf t) h = absurd h
 sub-finite (fin s m e) (fin t n d) h = (tt, tt)
 
-above : (e : Float) → T (finite e) → lt epsilon e ≡ true → Above e
-unfolding lt ofBits
-above nan h l = absurd h
-above (inf s) h l = absurd h
-above (fin true n d) h l = absurd (true≢false (sym l))
-above (fin false n d) h l = turned (down d) (n * up d) (ltb-true (1 * down d) (n * up d * 2 ^ 23) l)
-  where
-    turned : (a b : ℕ) → 1 * a < b * 2 ^ 23 → a < 2 ^ 23 * b
-    turned a b p = omega arith
-
 -- ---- the numbers of a list, one at a time
 not-over : (limit : Float) (xs : List Float) → anyOver limit xs ≡ false → (i : ℕ) → exceeds limit (getD xs i nan) ≡ false
 unfolding anyOver exceeds
@@ -88,7 +77,7 @@ limited-axis low high ol oh v =
     let fs = sub-finite high low (holds (fe .0)) in
     let wl : Within (2 ^ 16) low = under 16 low (fs .1) ol in
     let wh : Within (2 ^ 16) high = under 16 high (fs .0) oh in
-    record { low-within = wl; high-within = wh; side = record { within = sub-pow 16 16 17 high low (lit< tt) (lit< tt) (lit≤ tt) wh wl; above = above e (holds (fe .0)) (fe .1) } }
+    record { low-within = wl; high-within = wh; side = record { within = sub-pow 16 16 17 high low (lit< tt) (lit< tt) (lit≤ tt) wh wl; above = valid-above e v } }
 
 -- the whole frame's call tests validity apart from the bounds, so the two stand here by themselves
 pub limited-cell : (c : Cell) → boundOver c ≡ false → valid c ≡ true → Limited c

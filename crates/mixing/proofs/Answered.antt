@@ -9,6 +9,7 @@ use lib.ListN.{length}
 use lib.Ieee.{Float}
 use borrow.Author.Tests.{ltb-false}
 use Rattle.base.specs.Refusals.{firstRefusal}
+use Rattle.base.proofs.FirstRefusal.{zero-of}
 use Rattle.leaf_table.proofs.LeafList.{reported-few}
 use Rattle.leaf_table.specs.LeafTable.{reportedLeaves}
 use Rattle.tree.specs.Tree.{frameTree}
@@ -17,11 +18,6 @@ use Rattle.mixing.specs.declared.FrameAnswer.the-variants.{Blank, Mixed}
 use Rattle.mixing.specs.declared.FrameAnswer.{FrameAnswer}
 use Rattle.mixing.specs.Frame.{Frame, FrameTables, treeInput, sized, limited, blankHolds, refusedOr, mixedAnswer, frameRefusal, frameBlank, frameAnswer}
 use Rattle.mixing.proofs.Outcomes.{Passed, roomNumber, number-limit, number-size, number-room, blank-is}
-
--- a number that is 0, or has another for its own, is 0 where the other is
-zero-of : (m n : ℕ) → ((m ≡ 0 → ⊥) → n ≡ m) → n ≡ 0 → m ≡ 0
-zero-of zero n h e = refl
-zero-of (suc m) n h e = absurd (omega (arith, h (λ z. omega arith), e))
 
 nodes-fit : (room n : ℕ) → _≡_ {A = ℕ} (cond (ltb room n) 13 0) 0 → n ≤ room
 nodes-fit room n e = by-test (ltb room n) refl e
@@ -39,7 +35,7 @@ module _ (f : Frame) (t : FrameTables) where
     some : blankHolds f ≡ false
     some = sym (blank-is f t limits-none) ∙ b
 
-    passes : Passed f t
+    pub passes : Passed f t
     passes = record { within = limits-none; some = some; fits = zero-of (firstRefusal (sized f t)) (frameRefusal f t) (number-size f t limits-none some) e }
 
     no-refusal : roomNumber f t ≡ 0

@@ -9,3 +9,5 @@ pub mod Tested
 pub mod Answered
 -- the frame's answers are those of the calls that it stands for
 pub mod Calls
+-- separation both ways round, for the callers
+pub mod Mirror

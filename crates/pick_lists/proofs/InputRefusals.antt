@@ -3,12 +3,12 @@
 use mathlib.Core.Path.{_≡_, refl, sym, ap, _∙_}
 use mathlib.Core.Bool.{true, false, not}
 use mathlib.Core.List.{[], _∷_}
-use Prim.Native.Nat.{ℕ, zero, suc}
+use Prim.Native.Nat.{ℕ}
 use native.Mathlib.Omega.{arith}
 use borrow.Author.Tests.{not-false}
 use Rattle.frame_limits.specs.Limits.{lengths, counts, bounds, coordinates, validity, limitRefusals, frameRefusals}
 use Rattle.base.specs.Refusals.{firstRefusal}
-use Rattle.base.proofs.FirstRefusal.{numbered, first-hit, first-skip, first-none, append-hit, append-skip}
+use Rattle.base.proofs.FirstRefusal.{numbered, first-hit, first-skip, first-none, append-hit, append-skip, append-none}
 use Rattle.frame_limits.proofs.FrameRefusals.{frame-numbered}
 use Rattle.pick_lists.specs.Sound.{soundLists, soundness}
 use Rattle.pick_lists.specs.Input.{Input, inputRefusals}
@@ -39,14 +39,9 @@ module _ (f : Input) where
   -- input that none of 1, 2, 3, 4, 15 and 8 refuses
   pub input-accepted : firstRefusal (inputRefusals f) ≡ 0 → (firstRefusal (frameRefusals (f .cell) (f .solutes) (f .waters)) ≡ 0) × (soundLists (f .solutes) (f .starts) (f .picks) ≡ true)
   unfolding inputRefusals soundness
-  input-accepted h = by-frame (firstRefusal (frameRefusals (f .cell) (f .solutes) (f .waters))) refl
-    where
-      never : (n : ℕ) → suc n ≡ 0 → ⊥
-      never n z = omega arith
-
-      by-frame : (r : ℕ) → r ≡ firstRefusal (frameRefusals (f .cell) (f .solutes) (f .waters)) → (firstRefusal (frameRefusals (f .cell) (f .solutes) (f .waters)) ≡ 0) × (soundLists (f .solutes) (f .starts) (f .picks) ≡ true)
-      by-frame zero e = (sym e, not-false (soundLists (f .solutes) (f .starts) (f .picks)) (first-none (soundness (f .solutes) (f .starts) (f .picks)) [] (λ z. omega arith) (sym (input-lists (sym e)) ∙ h) .0))
-      by-frame (suc r) e = absurd (never r (input-frame (suc r) e (never r) ∙ h))
+  input-accepted h =
+      let none = append-none (frameRefusals (f .cell) (f .solutes) (f .waters)) (soundness (f .solutes) (f .starts) (f .picks) ∷ []) (frame-numbered (f .cell) (f .solutes) (f .waters)) h in
+      (none, not-false (soundLists (f .solutes) (f .starts) (f .picks)) (first-none (soundness (f .solutes) (f .starts) (f .picks)) [] (λ z. omega arith) (sym (input-lists none) ∙ h) .0))
 
   -- the same of a first refusal r that was found and is none
   pub sound-input : (r : ℕ) → r ≡ firstRefusal (inputRefusals f) → r ≡ 0 → soundLists (f .solutes) (f .starts) (f .picks) ≡ true

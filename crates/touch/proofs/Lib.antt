@@ -1,3 +1,5 @@
 -- The laws that the proofs of this crate and of the layers above it cite.
 -- searches through lists, an element at a time
 pub mod Any
+-- separation both ways round
+pub mod Mirror

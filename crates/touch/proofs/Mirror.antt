@@ -1,0 +1,127 @@
+-- The mirror law: the axes' laws of `cell` on all three axes, and a pair of picks that is as near from either end, so that a search of the pairs finds one
+-- both ways round or neither. The picks of input that no test refuses are finite and within the limits, so that their separations are finite. Assumes nothing.
+use mathlib.Core.Path.{_≡_, refl, sym, ap, _∙_, fun-ext}
+use mathlib.Core.Bool.{Bool, true, false, _&&_, _||_}
+use mathlib.Core.List.{List, [], _∷_}
+use Prim.Native.Nat.{ℕ, _<_}
+use lib.Dec.{T, lit≤}
+use lib.ListN.{length, getD}
+use lib.Ieee.{Float, binary32, neg, sub, le, eq}
+use lib.Ieee.Scale.{finite}
+use Rattle.floats.proofs.Tests.{holds, both}
+use Rattle.base.specs.Refusals.{firstRefusal}
+use Rattle.cell.specs.declared.Cell.{Cell}
+use Rattle.cell.specs.declared.Vec3.{Vec3}
+use Rattle.cell.specs.Cell.{imageAxis, extentOf, validAxis, valid, minImage, minus, pointAt, finitePoint}
+use Rattle.cell.proofs.Finite.{Around, around-finite, minus-around}
+use Rattle.cell.proofs.Mirror.{image-neg, image-swap, distance-swap}
+use Rattle.frame_limits.proofs.FrameRefusals.{frame-none}
+use Rattle.frame_limits.proofs.FiniteFrame.{atom-around}
+use Rattle.pick_lists.specs.Sound.{finiteAtom, pickList}
+use Rattle.pick_lists.specs.Input.{Input, inputRefusals}
+use Rattle.pick_lists.proofs.InputRefusals.{input-accepted}
+use Rattle.pick_lists.proofs.SoundLists.{sound-lists}
+use Rattle.touch.specs.Touch.{cutoff2, near, anyIn, anyPair, copiesTouch}
+use Rattle.touch.specs.Mirror.{opposite, sameNumbers, touchReversed, pickPoint, Mirrored, MirrorLaw}
+
+-- ---- all three axes
+three : {x y z : Bool} → x ≡ true → y ≡ true → z ≡ true → x && (y && z) ≡ true
+three p q r = rw (p, q, r)
+
+module _ (c : Cell) (v : valid c ≡ true) where
+  -- a law of every valid axis holds on all three
+  on-axes : (P : Float → Type 0) → ((e : Float) → validAxis e ≡ true → P e) → P (extentOf c .x) × P (extentOf c .y) × P (extentOf c .z)
+  unfolding valid
+  on-axes P h =
+      let e = extentOf c in
+      let vx = both (validAxis (e .x)) (validAxis (e .y) && validAxis (e .z)) v in
+      let vy = both (validAxis (e .y)) (validAxis (e .z)) (vx .1) in
+      (h (e .x) (vx .0), h (e .y) (vy .0), h (e .z) (vy .1))
+
+finite-axes : (d : Vec3) → finitePoint d ≡ true → T (finite (d .x)) × T (finite (d .y)) × T (finite (d .z))
+unfolding finitePoint
+finite-axes d h =
+    let f = both (finite (d .x)) (finite (d .y) && finite (d .z)) h in
+    let g = both (finite (d .y)) (finite (d .z)) (f .1) in
+    (holds (f .0), holds (g .0), holds (g .1))
+
+images-neg : (c : Cell) (d : Vec3) → valid c ≡ true → finitePoint d ≡ true
+    → sameNumbers (minImage (extentOf c) (opposite d)) (opposite (minImage (extentOf c) d)) ≡ true
+unfolding sameNumbers minImage opposite
+images-neg c d v h =
+    let a = on-axes c v (λ e. (d : Float) → T (finite d) → eq (imageAxis (neg d) e) (neg (imageAxis d e)) ≡ true) image-neg in
+    let f = finite-axes d h in
+    three (a .0 (d .x) (f .0)) (a .1 (d .y) (f .1)) (a .2 (d .z) (f .2))
+
+images-swap : (c : Cell) (p q : Vec3) → valid c ≡ true → finitePoint (minus q p) ≡ true
+    → sameNumbers (minImage (extentOf c) (minus p q)) (opposite (minImage (extentOf c) (minus q p))) ≡ true
+unfolding sameNumbers minImage opposite minus
+images-swap c p q v h =
+    let a = on-axes c v (λ e. (p q : Float) → T (finite (sub binary32 q p)) → eq (imageAxis (sub binary32 p q) e) (neg (imageAxis (sub binary32 q p) e)) ≡ true) image-swap in
+    let f = finite-axes (minus q p) h in
+    three (a .0 (p .x) (q .x) (f .0)) (a .1 (p .y) (q .y) (f .1)) (a .2 (p .z) (q .z) (f .2))
+
+-- ---- a search of the pairs of two lists, by the other list first
+none : (qs : List ℕ) → anyIn (λ q. false) qs ≡ false
+unfolding anyIn
+none [] = refl
+none (q ∷ qs) = none qs
+
+either : (f g : ℕ → Bool) (qs : List ℕ) → anyIn (λ q. f q || g q) qs ≡ (anyIn f qs || anyIn g qs)
+unfolding anyIn
+either f g [] = refl
+either f g (q ∷ qs) = ap (λ (b : Bool). (f q || g q) || b) (either f g qs) ∙ four (f q) (g q) (anyIn f qs) (anyIn g qs)
+  where
+    four : (a b c d : Bool) → ((a || b) || (c || d)) ≡ ((a || c) || (b || d))
+    four true b c d = refl
+    four false true true d = refl
+    four false true false d = refl
+    four false false c d = refl
+
+pair-swap : (f : ℕ → ℕ → Bool) (ps qs : List ℕ) → anyPair f ps qs ≡ anyPair (λ q p. f p q) qs ps
+unfolding anyPair anyIn
+pair-swap f [] qs = sym (none qs)
+pair-swap f (p ∷ ps) qs = ap (λ (b : Bool). anyIn (f p) qs || b) (pair-swap f ps qs) ∙ sym (either (f p) (λ q. anyIn (λ r. f r q) ps) qs)
+
+-- ---- copies
+near-swap : (e : Vec3) (xs : List Float) (p q : ℕ) → near e xs q p ≡ near e xs p q
+unfolding near
+near-swap e xs p q = ap (λ (d : Float). le d cutoff2) (distance-swap e (pointAt xs q) (pointAt xs p))
+
+-- as functions, so that one may stand for the other in a search
+near-reversed : (e : Vec3) (xs : List Float) → (λ (p q : ℕ). near e xs q p) ≡ near e xs
+near-reversed e xs = fun-ext (λ p. fun-ext (λ q. near-swap e xs p q))
+
+module _ (f : Input) where
+  pub touch-reversed : touchReversed f ≡ copiesTouch f
+  unfolding touchReversed copiesTouch
+  touch-reversed = fun-ext (λ i. fun-ext (λ j. ap (λ (g : ℕ → ℕ → Bool). anyPair g (pickList (f .starts) (f .picks) i) (pickList (f .starts) (f .picks) j)) (near-reversed (extentOf (f .cell)) (f .solutes))))
+
+  pub touch-swap : (i j : ℕ) → copiesTouch f i j ≡ copiesTouch f j i
+  unfolding copiesTouch
+  touch-swap i j =
+      let e = extentOf (f .cell) in
+      pair-swap (near e (f .solutes)) (pickList (f .starts) (f .picks) i) (pickList (f .starts) (f .picks) j)
+      ∙ ap (λ (g : ℕ → ℕ → Bool). anyPair g (pickList (f .starts) (f .picks) j) (pickList (f .starts) (f .picks) i)) (near-reversed e (f .solutes))
+
+  -- ---- input that no test refuses
+  module _ (h : firstRefusal (inputRefusals f) ≡ 0) where
+    pick-around : (k : ℕ) → k < length (f .picks) → Around 20 (pickPoint f k)
+    unfolding finiteAtom
+    pick-around k l =
+        let a = input-accepted f h in
+        let w = frame-none (f .cell) (f .solutes) (f .waters) (a .0) in
+        atom-around (f .solutes) (w .solutes-within) (getD (f .picks) k 0) (sound-lists (f .solutes) (f .starts) (f .picks) (a .1) .finite k l)
+
+    pub input-mirrored : Mirrored f
+    input-mirrored =
+        record {
+          images = λ k l hk hl.
+              images-swap (f .cell) (pickPoint f k) (pickPoint f l) (frame-none (f .cell) (f .solutes) (f .waters) (input-accepted f h .0) .cell-valid)
+              (around-finite 21 (minus (pickPoint f l) (pickPoint f k)) (minus-around 20 (pickPoint f k) (pickPoint f l) (lit≤ tt) (pick-around k hk) (pick-around l hl)));
+          distances = λ k l. distance-swap (extentOf (f .cell)) (pickPoint f k) (pickPoint f l);
+          touches = touch-swap;
+        }
+
+pub mirror-law : MirrorLaw
+mirror-law = record { image = images-neg; ends = images-swap; distance = distance-swap; touch = touch-swap; search = touch-reversed; input = input-mirrored }
