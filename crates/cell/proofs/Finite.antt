@@ -14,12 +14,13 @@ use lib.Ieee.Bits.{is-true}
 use lib.Ieee.Scale.{finite}
 use borrow.Author.Tests.{ltb-true}
 use Rattle.floats.specs.Whole.{floorOf, roundOf}
+use Rattle.floats.proofs.Tests.{holds, both}
 use Rattle.floats.proofs.Bounds.{Within, Exact, exact-pow, mul-within, add-within, sub-within, within-more}
 use Rattle.floats.proofs.Image.{Keeps, Nonzero, Ratio, round-keeps, floor-keeps, image-within}
 use Rattle.floats.proofs.Quotients.{within-finite}
 use Rattle.cell.specs.declared.Vec3.{Vec3}
 use Rattle.cell.specs.declared.Cell.{Cell}
-use Rattle.cell.specs.Cell.{wrapAxis, imageAxis, validAxis, extentOf, wrap, minImage, squared, minus, distance2, volumeOf, finitePoint}
+use Rattle.cell.specs.Cell.{wrapAxis, imageAxis, validAxis, valid, extentOf, wrap, minImage, squared, minus, distance2, volumeOf, finitePoint}
 
 -- ---- bounds that are powers of two
 pub pow-more : (x : Float) (j k : ℕ) → j ≤ k → Within (2 ^ j) x → Within (2 ^ k) x
@@ -69,6 +70,22 @@ pub record Around (k : ℕ) (p : Vec3) : Type 0 where
   pub on-x : Within (2 ^ k) (p .x)
   pub on-y : Within (2 ^ k) (p .y)
   pub on-z : Within (2 ^ k) (p .z)
+
+-- a valid cell and a finite point, an axis at a time
+pub valid-axes : (c : Cell) → valid c ≡ true → (validAxis (extentOf c .x) ≡ true) × (validAxis (extentOf c .y) ≡ true) × (validAxis (extentOf c .z) ≡ true)
+unfolding valid
+valid-axes c v =
+    let e = extentOf c in
+    let vx = both (validAxis (e .x)) (validAxis (e .y) && validAxis (e .z)) v in
+    let vy = both (validAxis (e .y)) (validAxis (e .z)) (vx .1) in
+    (vx .0, vy .0, vy .1)
+
+pub finite-axes : (p : Vec3) → finitePoint p ≡ true → T (finite (p .x)) × T (finite (p .y)) × T (finite (p .z))
+unfolding finitePoint
+finite-axes p h =
+    let fx = both (finite (p .x)) (finite (p .y) && finite (p .z)) h in
+    let fy = both (finite (p .y)) (finite (p .z)) (fx .1) in
+    (holds (fx .0), holds (fy .0), holds (fy .1))
 
 -- an extent of a valid cell
 pub valid-above : (e : Float) → validAxis e ≡ true → Above e

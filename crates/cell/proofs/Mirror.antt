@@ -31,7 +31,7 @@ taken-neg e d =
     ap (λ (q : Float). mul binary32 e (roundOf binary32 q)) (div-neg-left binary32 d e) ∙ ap (mul binary32 e) (roundOf-neg binary32 (div binary32 d e))
     ∙ mul-neg-right binary32 e (roundOf binary32 (div binary32 d e))
 
-pub image-turned : (e d : Float) → Turned (imageAxis d e) (imageAxis (neg d) e)
+image-turned : (e d : Float) → Turned (imageAxis d e) (imageAxis (neg d) e)
 unfolding imageAxis
 image-turned e d = subst (λ (t : Float). Turned (sub binary32 d (taken e d)) (sub binary32 (neg d) t)) (sym (taken-neg e d)) (sub-neg binary32 d (taken e d))
 

@@ -38,7 +38,7 @@ neg-at : (f : Format) (s t : Bool) (a c : ℕ) → t ≡ not s → round f t a c
 neg-at f s t a c h = ap (λ (b : Bool). round f b a c) h ∙ round-neg f s a c
 
 -- ---- products and quotients
-pub mul-neg-left : (f : Format) (x y : Float) → mul f (neg x) y ≡ neg (mul f x y)
+mul-neg-left : (f : Format) (x y : Float) → mul f (neg x) y ≡ neg (mul f x y)
 unfolding mul neg
 mul-neg-left f nan y = refl
 mul-neg-left f (inf s) nan = refl
@@ -113,38 +113,38 @@ turned-back {z} {w} (inl h) = inl (sym (neg-neg z) ∙ ap neg (sym h))
 turned-back (inr (h, k)) = inr (k, h)
 
 module _ (f : Format) (a b c : ℕ) where
-  -- a less b, by the two tests of their order
-  less : 0 < c → (x y : Bool) → (T (not x) → b ≤ a) → (T (not y) → a ≤ b)
+  -- a less b, by the two tests of their order: -a less -b, and b less a
+  difference-neg : 0 < c → (x y : Bool) → (T (not x) → b ≤ a) → (T (not y) → a ≤ b)
       → Turned (cond x (round f true (b - a) c) (round f false (a - b) c)) (cond x (round f false (b - a) c) (round f y (a - b) c))
-  less C true y h k = inl (round-neg f true (b - a) c)
-  less C false true h k = inl (round-neg f false (a - b) c)
-  less C false false h k =
+  difference-neg C true y h k = inl (round-neg f true (b - a) c)
+  difference-neg C false true h k = inl (round-neg f false (a - b) c)
+  difference-neg C false false h k =
       let same : a - b ≡ 0 = omega (arith, h tt, k tt) in
       let none : round f false (a - b) c ≡ fin false 0 (pos 0) = ap (λ (n : ℕ). round f false n c) same ∙ round-none f false c C in
       inr (none, none)
 
-  less-swap : (x y : Bool) → (T x → a < b) → (T y → b < a) → (T (not x) → b ≤ a) → (T (not y) → a ≤ b)
+  difference-swap : (x y : Bool) → (T x → a < b) → (T y → b < a) → (T (not x) → b ≤ a) → (T (not y) → a ≤ b)
       → cond x (round f true (b - a) c) (round f false (a - b) c) ≡ cond y (round f false (a - b) c) (round f x (b - a) c)
-  less-swap true true h k h' k' = absurd (omega (arith, h tt, k tt))
-  less-swap true false h k h' k' = refl
-  less-swap false true h k h' k' = refl
-  less-swap false false h k h' k' = let same : a - b ≡ b - a = omega (arith, h' tt, k' tt) in ap (λ (n : ℕ). round f false n c) same
+  difference-swap true true h k h' k' = absurd (omega (arith, h tt, k tt))
+  difference-swap true false h k h' k' = refl
+  difference-swap false true h k h' k' = refl
+  difference-swap false false h k h' k' = let same : a - b ≡ b - a = omega (arith, h' tt, k' tt) in ap (λ (n : ℕ). round f false n c) same
 
 sum-neg : (f : Format) (s : Bool) (a : ℕ) (t : Bool) (b c : ℕ) → 0 < c → Turned (sum f s a t b c) (sum f (not s) a (not t) b c)
 unfolding sum
 sum-neg f false a false b c C = inl (round-neg f false (a + b) c)
 sum-neg f true a true b c C = inl (round-neg f true (a + b) c)
-sum-neg f false a true b c C = less f a b c C (ltb a b) (ltb b a) (nltb→le a b) (nltb→le b a)
-sum-neg f true a false b c C = turned-back (less f a b c C (ltb a b) (ltb b a) (nltb→le a b) (nltb→le b a))
+sum-neg f false a true b c C = difference-neg f a b c C (ltb a b) (ltb b a) (nltb→le a b) (nltb→le b a)
+sum-neg f true a false b c C = turned-back (difference-neg f a b c C (ltb a b) (ltb b a) (nltb→le a b) (nltb→le b a))
 
 sum-swap : (f : Format) (s : Bool) (a : ℕ) (t : Bool) (b c : ℕ) → sum f s a t b c ≡ sum f t b s a c
 unfolding sum
 sum-swap f false a false b c = ap (λ (n : ℕ). round f false n c) (add-comm a b)
 sum-swap f true a true b c = ap (λ (n : ℕ). round f true n c) (add-comm a b)
-sum-swap f false a true b c = less-swap f a b c (ltb a b) (ltb b a) (ltb→lt a b) (ltb→lt b a) (nltb→le a b) (nltb→le b a)
-sum-swap f true a false b c = sym (less-swap f b a c (ltb b a) (ltb a b) (ltb→lt b a) (ltb→lt a b) (nltb→le b a) (nltb→le a b))
+sum-swap f false a true b c = difference-swap f a b c (ltb a b) (ltb b a) (ltb→lt a b) (ltb→lt b a) (nltb→le a b) (nltb→le b a)
+sum-swap f true a false b c = sym (difference-swap f b a c (ltb b a) (ltb a b) (ltb→lt b a) (ltb→lt a b) (nltb→le b a) (nltb→le a b))
 
-pub add-swap : (f : Format) (x y : Float) → add f x y ≡ add f y x
+add-swap : (f : Format) (x y : Float) → add f x y ≡ add f y x
 unfolding add
 add-swap f nan nan = refl
 add-swap f nan (inf t) = refl
@@ -161,7 +161,7 @@ add-swap f (fin s m e) (fin t n d) =
     sum-swap f s (m * up e * down d) t (n * up d * down e) (down e * down d)
     ∙ ap (sum f t (n * up d * down e) s (m * up e * down d)) (mul-comm (down e) (down d))
 
-pub add-neg : (f : Format) (x y : Float) → Turned (add f x y) (add f (neg x) (neg y))
+add-neg : (f : Format) (x y : Float) → Turned (add f x y) (add f (neg x) (neg y))
 unfolding add neg
 add-neg f nan y = inl refl
 add-neg f (inf s) nan = inl refl

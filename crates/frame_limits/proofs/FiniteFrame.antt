@@ -2,7 +2,7 @@
 -- minimum image and every squared distance of finite atoms is finite. The bounds are 2 ^ 16 at most, the sides above 2 ^ -23 and 2 ^ 17 at most, and a finite atom's
 -- coordinates 2 ^ 20 at most; the laws of `Finite` do the rest. A bound that is not finite needs no test of its own: its extent is then not finite. Assumes nothing.
 use mathlib.Core.Path.{_≡_, refl, subst}
-use mathlib.Core.Bool.{true, false, _&&_}
+use mathlib.Core.Bool.{true, false}
 use mathlib.Core.List.{List, [], _∷_}
 use Prim.Native.Nat.{ℕ, zero, suc, _+_, _*_, _^_, _≤_, _<_}
 use native.Mathlib.Nat.{one-mul, mul-one}
@@ -19,7 +19,7 @@ use Rattle.cell.specs.declared.Cell.{Cell}
 use Rattle.cell.specs.Cell.{epsilon, validAxis, extentOf, valid, wrap, minImage, minus, distance2, pointAt, finitePoint}
 use Rattle.frame_limits.specs.Limits.{maxBound, maxCoordinate, exceeds, anyOver, boundOver, frameRefusals}
 use Rattle.base.specs.Refusals.{firstRefusal}
-use Rattle.cell.proofs.Finite.{sub-pow, valid-above, Side, Sides, Around, around-finite, wrap-around, image-around, minus-around, distance-finite}
+use Rattle.cell.proofs.Finite.{sub-pow, valid-axes, finite-axes, valid-above, Side, Sides, Around, around-finite, wrap-around, image-around, minus-around, distance-finite}
 use Rattle.base.proofs.Tests.{neither}
 use Rattle.frame_limits.proofs.FrameRefusals.{frame-none}
 
@@ -81,15 +81,13 @@ limited-axis low high ol oh v =
 
 -- the whole frame's call tests validity apart from the bounds, so the two stand here by themselves
 pub limited-cell : (c : Cell) → boundOver c ≡ false → valid c ≡ true → Limited c
-unfolding boundOver valid extentOf
+unfolding boundOver extentOf
 limited-cell c o v =
     let under-limit = not-over maxBound (c .low .x ∷ c .low .y ∷ c .low .z ∷ c .high .x ∷ c .high .y ∷ c .high .z ∷ []) o in
-    let e = extentOf c in
-    let vx = both (validAxis (e .x)) (validAxis (e .y) && validAxis (e .z)) v in
-    let vy = both (validAxis (e .y)) (validAxis (e .z)) (vx .1) in
-    let ax = limited-axis (c .low .x) (c .high .x) (under-limit 0) (under-limit 3) (vx .0) in
-    let ay = limited-axis (c .low .y) (c .high .y) (under-limit 1) (under-limit 4) (vy .0) in
-    let az = limited-axis (c .low .z) (c .high .z) (under-limit 2) (under-limit 5) (vy .1) in
+    let v' = valid-axes c v in
+    let ax = limited-axis (c .low .x) (c .high .x) (under-limit 0) (under-limit 3) (v' .0) in
+    let ay = limited-axis (c .low .y) (c .high .y) (under-limit 1) (under-limit 4) (v' .1) in
+    let az = limited-axis (c .low .z) (c .high .z) (under-limit 2) (under-limit 5) (v' .2) in
     record {
       low-around = record { on-x = ax .low-within; on-y = ay .low-within; on-z = az .low-within };
       high-around = record { on-x = ax .high-within; on-y = ay .high-within; on-z = az .high-within };
@@ -102,12 +100,11 @@ limited c solutes waters h = let a = frame-none c solutes waters h in limited-ce
 -- ---- the atoms
 -- a finite atom of a list with no coordinate over its limit
 pub atom-around : (xs : List Float) → anyOver maxCoordinate xs ≡ false → (k : ℕ) → finitePoint (pointAt xs k) ≡ true → Around 20 (pointAt xs k)
-unfolding pointAt finitePoint ofBits
+unfolding pointAt ofBits
 atom-around xs o k h =
     let p = pointAt xs k in
-    let fx = both (finite (p .x)) (finite (p .y) && finite (p .z)) h in
-    let fy = both (finite (p .y)) (finite (p .z)) (fx .1) in
-    record { on-x = under 20 (p .x) (holds (fx .0)) (not-over maxCoordinate xs o (k * 3)); on-y = under 20 (p .y) (holds (fy .0)) (not-over maxCoordinate xs o (k * 3 + 1)); on-z = under 20 (p .z) (holds (fy .1)) (not-over maxCoordinate xs o (k * 3 + 2)) }
+    let f = finite-axes p h in
+    record { on-x = under 20 (p .x) (f .0) (not-over maxCoordinate xs o (k * 3)); on-y = under 20 (p .y) (f .1) (not-over maxCoordinate xs o (k * 3 + 1)); on-z = under 20 (p .z) (f .2) (not-over maxCoordinate xs o (k * 3 + 2)) }
 
 pub solute-around : (c : Cell) (solutes waters : List Float) → firstRefusal (frameRefusals c solutes waters) ≡ 0 → (k : ℕ) → finitePoint (pointAt solutes k) ≡ true → Around 20 (pointAt solutes k)
 solute-around c solutes waters h = atom-around solutes (frame-none c solutes waters h .solutes-within)

@@ -19,7 +19,7 @@ use Rattle.cell.specs.declared.Vec3.{Vec3}
 use Rattle.cell.specs.Cell.{imageAxis, validAxis, valid, extentOf, pointAt, finitePoint}
 use Rattle.frame_limits.specs.Limits.{boundOver, anyOver, maxCoordinate, frameRefusals}
 use Rattle.base.specs.Refusals.{firstRefusal}
-use Rattle.cell.proofs.Finite.{Above, Side, Around, image-axis-within}
+use Rattle.cell.proofs.Finite.{valid-axes, Above, Side, Around, image-axis-within}
 use Rattle.frame_limits.proofs.FrameRefusals.{frame-none}
 use Rattle.frame_limits.proofs.FiniteFrame.{limited-cell, atom-around}
 use Rattle.gates.specs.Inner.{turnsOf, tested}
@@ -100,17 +100,15 @@ tested-is c xs h =
     record { bounds = not-true (boundOver c) (p .0); is-valid = q .0; within = not-true (anyOver maxCoordinate xs) (q .1) }
 
 pub tested-axes : (c : Cell) (xs : List Float) → tested c xs ≡ true → Axes (extentOf c)
-unfolding valid
 tested-axes c xs h =
     let t = tested-is c xs h in
     let e = extentOf c in
     let s = limited-cell c (t .bounds) (t .is-valid) .sides in
-    let vx = both (validAxis (e .x)) (validAxis (e .y) && validAxis (e .z)) (t .is-valid) in
-    let vy = both (validAxis (e .y)) (validAxis (e .z)) (vx .1) in
+    let v = valid-axes c (t .is-valid) in
     record {
-      on-x = record { side = s .on-x; plus = valid-plain (e .x) (vx .0) };
-      on-y = record { side = s .on-y; plus = valid-plain (e .y) (vy .0) };
-      on-z = record { side = s .on-z; plus = valid-plain (e .z) (vy .1) };
+      on-x = record { side = s .on-x; plus = valid-plain (e .x) (v .0) };
+      on-y = record { side = s .on-y; plus = valid-plain (e .y) (v .1) };
+      on-z = record { side = s .on-z; plus = valid-plain (e .z) (v .2) };
     }
 
 pub tested-atom : (c : Cell) (xs : List Float) → tested c xs ≡ true → (p : ℕ) → finitePoint (pointAt xs p) ≡ true → Around 20 (pointAt xs p)

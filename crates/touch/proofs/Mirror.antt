@@ -4,16 +4,14 @@ use mathlib.Core.Path.{_≡_, refl, sym, ap, _∙_, fun-ext}
 use mathlib.Core.Bool.{Bool, true, false, _&&_, _||_}
 use mathlib.Core.List.{List, [], _∷_}
 use Prim.Native.Nat.{ℕ, _<_}
-use lib.Dec.{T, lit≤}
+use lib.Dec.{lit≤}
 use lib.ListN.{length, getD}
-use lib.Ieee.{Float, binary32, neg, sub, le, eq}
-use lib.Ieee.Scale.{finite}
-use Rattle.floats.proofs.Tests.{holds, both}
+use lib.Ieee.{Float, le}
 use Rattle.base.specs.Refusals.{firstRefusal}
 use Rattle.cell.specs.declared.Cell.{Cell}
 use Rattle.cell.specs.declared.Vec3.{Vec3}
-use Rattle.cell.specs.Cell.{imageAxis, extentOf, validAxis, valid, minImage, minus, pointAt, finitePoint}
-use Rattle.cell.proofs.Finite.{Around, around-finite, minus-around}
+use Rattle.cell.specs.Cell.{extentOf, valid, minImage, minus, pointAt, finitePoint}
+use Rattle.cell.proofs.Finite.{valid-axes, finite-axes, Around, around-finite, minus-around}
 use Rattle.cell.proofs.Mirror.{image-neg, image-swap, distance-swap}
 use Rattle.frame_limits.proofs.FrameRefusals.{frame-none}
 use Rattle.frame_limits.proofs.FiniteFrame.{atom-around}
@@ -28,38 +26,23 @@ use Rattle.touch.specs.Mirror.{opposite, sameNumbers, touchReversed, pic
 three : {x y z : Bool} → x ≡ true → y ≡ true → z ≡ true → x && (y && z) ≡ true
 three p q r = rw (p, q, r)
 
-module _ (c : Cell) (v : valid c ≡ true) where
-  -- a law of every valid axis holds on all three
-  on-axes : (P : Float → Type 0) → ((e : Float) → validAxis e ≡ true → P e) → P (extentOf c .x) × P (extentOf c .y) × P (extentOf c .z)
-  unfolding valid
-  on-axes P h =
-      let e = extentOf c in
-      let vx = both (validAxis (e .x)) (validAxis (e .y) && validAxis (e .z)) v in
-      let vy = both (validAxis (e .y)) (validAxis (e .z)) (vx .1) in
-      (h (e .x) (vx .0), h (e .y) (vy .0), h (e .z) (vy .1))
-
-finite-axes : (d : Vec3) → finitePoint d ≡ true → T (finite (d .x)) × T (finite (d .y)) × T (finite (d .z))
-unfolding finitePoint
-finite-axes d h =
-    let f = both (finite (d .x)) (finite (d .y) && finite (d .z)) h in
-    let g = both (finite (d .y)) (finite (d .z)) (f .1) in
-    (holds (f .0), holds (g .0), holds (g .1))
-
 images-neg : (c : Cell) (d : Vec3) → valid c ≡ true → finitePoint d ≡ true
     → sameNumbers (minImage (extentOf c) (opposite d)) (opposite (minImage (extentOf c) d)) ≡ true
 unfolding sameNumbers minImage opposite
 images-neg c d v h =
-    let a = on-axes c v (λ e. (d : Float) → T (finite d) → eq (imageAxis (neg d) e) (neg (imageAxis d e)) ≡ true) image-neg in
+    let e = extentOf c in
+    let a = valid-axes c v in
     let f = finite-axes d h in
-    three (a .0 (d .x) (f .0)) (a .1 (d .y) (f .1)) (a .2 (d .z) (f .2))
+    three (image-neg (e .x) (a .0) (d .x) (f .0)) (image-neg (e .y) (a .1) (d .y) (f .1)) (image-neg (e .z) (a .2) (d .z) (f .2))
 
 images-swap : (c : Cell) (p q : Vec3) → valid c ≡ true → finitePoint (minus q p) ≡ true
     → sameNumbers (minImage (extentOf c) (minus p q)) (opposite (minImage (extentOf c) (minus q p))) ≡ true
 unfolding sameNumbers minImage opposite minus
 images-swap c p q v h =
-    let a = on-axes c v (λ e. (p q : Float) → T (finite (sub binary32 q p)) → eq (imageAxis (sub binary32 p q) e) (neg (imageAxis (sub binary32 q p) e)) ≡ true) image-swap in
+    let e = extentOf c in
+    let a = valid-axes c v in
     let f = finite-axes (minus q p) h in
-    three (a .0 (p .x) (q .x) (f .0)) (a .1 (p .y) (q .y) (f .1)) (a .2 (p .z) (q .z) (f .2))
+    three (image-swap (e .x) (a .0) (p .x) (q .x) (f .0)) (image-swap (e .y) (a .1) (p .y) (q .y) (f .1)) (image-swap (e .z) (a .2) (p .z) (q .z) (f .2))
 
 -- ---- a search of the pairs of two lists, by the other list first
 none : (qs : List ℕ) → anyIn (λ q. false) qs ≡ false
@@ -93,11 +76,11 @@ near-reversed : (e : Vec3) (xs : List Float) → (λ (p q : ℕ). near e xs q p)
 near-reversed e xs = fun-ext (λ p. fun-ext (λ q. near-swap e xs p q))
 
 module _ (f : Input) where
-  pub touch-reversed : touchReversed f ≡ copiesTouch f
+  touch-reversed : touchReversed f ≡ copiesTouch f
   unfolding touchReversed copiesTouch
   touch-reversed = fun-ext (λ i. fun-ext (λ j. ap (λ (g : ℕ → ℕ → Bool). anyPair g (pickList (f .starts) (f .picks) i) (pickList (f .starts) (f .picks) j)) (near-reversed (extentOf (f .cell)) (f .solutes))))
 
-  pub touch-swap : (i j : ℕ) → copiesTouch f i j ≡ copiesTouch f j i
+  touch-swap : (i j : ℕ) → copiesTouch f i j ≡ copiesTouch f j i
   unfolding copiesTouch
   touch-swap i j =
       let e = extentOf (f .cell) in
@@ -113,7 +96,7 @@ module _ (f : Input) where
         let w = frame-none (f .cell) (f .solutes) (f .waters) (a .0) in
         atom-around (f .solutes) (w .solutes-within) (getD (f .picks) k 0) (sound-lists (f .solutes) (f .starts) (f .picks) (a .1) .finite k l)
 
-    pub input-mirrored : Mirrored f
+    input-mirrored : Mirrored f
     input-mirrored =
         record {
           images = λ k l hk hl.

@@ -40,19 +40,19 @@ pub record Mirrored (f : Input) : Type 0 where
   pub distances : (k l : ℕ) → distance2 (extentOf (f .cell)) (pickPoint f k) (pickPoint f l) ≡ distance2 (extentOf (f .cell)) (pickPoint f l) (pickPoint f k)
   pub touches : (i j : ℕ) → copiesTouch f i j ≡ copiesTouch f j i
 
--- THE MIRROR LAW
+-- THE MIRROR LAW, in three parts: images, squared distances, touch
 pub record MirrorLaw : Type 0 where
-  -- in a valid cell, the minimum image of a finite separation negated is the negated minimum image
+  -- as numbers, in a valid cell: the minimum image of a finite separation negated is the negated minimum image
   pub image : (c : Cell) (d : Vec3) → valid c ≡ true → finitePoint d ≡ true
       → sameNumbers (minImage (extentOf c) (opposite d)) (opposite (minImage (extentOf c) d)) ≡ true
-  -- and so is that of the separation taken from the other end, which is not the negated one where it is 0: both are then +0
+  -- and so is that of the separation seen from the other end, which is not the negated one where it is 0: it is +0 both ways
   pub ends : (c : Cell) (p q : Vec3) → valid c ≡ true → finitePoint (minus q p) ≡ true
       → sameNumbers (minImage (extentOf c) (minus p q)) (opposite (minImage (extentOf c) (minus q p))) ≡ true
-  -- a squared distance is the same from either end, in any extent and of any points
+  -- bit for bit, in any extent and of any points: a squared distance is the same from either end
   pub distance : (e p q : Vec3) → distance2 e p q ≡ distance2 e q p
-  -- touch is symmetric, on any input
+  -- on any input: touch is symmetric
   pub touch : (f : Input) (i j : ℕ) → copiesTouch f i j ≡ copiesTouch f j i
   -- and a search that takes every separation the other way round is the same test, in whatever is built on it
   pub search : (f : Input) → touchReversed f ≡ copiesTouch f
-  -- for a caller: input that none of 1, 2, 3, 4, 15 and 8 refuses has all of it
+  -- for a caller: all of it for input that none of 1, 2, 3, 4, 15 and 8 refuses
   pub input : (f : Input) → firstRefusal (inputRefusals f) ≡ 0 → Mirrored f
