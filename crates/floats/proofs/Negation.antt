@@ -75,17 +75,6 @@ div-neg-left f (fin s m e) (inf t) = ap (λ (b : Bool). fin b 0 (pos 0)) (unlike
 div-neg-left f (fin s m e) (fin t n d) =
     neg-quotient f (eqb n 0) (eqb m 0) (unlike s t) (unlike (not s) t) (m * up e * down d) (n * up d * down e) (unlike-left s t)
 
-pub div-neg-right : (f : Format) (x y : Float) → div f x (neg y) ≡ neg (div f x y)
-unfolding div neg
-div-neg-right f nan y = refl
-div-neg-right f (inf s) nan = refl
-div-neg-right f (inf s) (inf t) = refl
-div-neg-right f (inf s) (fin t n d) = ap inf (unlike-right s t)
-div-neg-right f (fin s m e) nan = refl
-div-neg-right f (fin s m e) (inf t) = ap (λ (b : Bool). fin b 0 (pos 0)) (unlike-right s t)
-div-neg-right f (fin s m e) (fin t n d) =
-    neg-quotient f (eqb n 0) (eqb m 0) (unlike s t) (unlike s (not t)) (m * up e * down d) (n * up d * down e) (unlike-right s t)
-
 -- ---- to a whole number, and to a format
 pub roundOf-neg : (f : Format) (x : Float) → roundOf f (neg x) ≡ neg (roundOf f x)
 unfolding roundOf neg

@@ -11,3 +11,5 @@ pub mod Answered
 pub mod Calls
 -- separation both ways round, for the callers
 pub mod Mirror
+-- and where that law ends
+pub mod Examples

@@ -3,3 +3,5 @@
 pub mod Any
 -- separation both ways round
 pub mod Mirror
+-- and where that law ends
+pub mod Examples
