@@ -1,10 +1,11 @@
--- The checked frames (docs/RULES.md) that the cell alone answers, worked out by the definitions: `checked`, one statement for the lot.
--- Points and cells are alike on the three axes and given by an axis's f32 bits. Assumes nothing.
+-- The checked frames (docs/RULES.md) that the cell alone answers, worked out by the definitions: `checked`, one statement for the lot. And one axis where
+-- a division is saved, and where it must not be: `edges`. Points and cells are alike on the three axes and given by an axis's f32 bits. Assumes nothing.
 use mathlib.Core.Path.{_≡_, refl}
 use mathlib.Core.Bool.{true, false}
 use Prim.Native.Nat.{ℕ}
-use lib.Ieee.{binary32, ofBits, sub, mul, div, lt}
+use lib.Ieee.{nan, binary32, ofBits, neg, add, sub, mul, div, lt, le}
 use Rattle.floats.specs.Whole.{floorOf, roundOf}
+use Rattle.floats.proofs.Folding.{foldOf}
 use Rattle.cell.specs.declared.Vec3.{Vec3}
 use Rattle.cell.specs.declared.Cell.{Cell}
 use Rattle.cell.specs.Cell.{extentOf, validAxis, valid, wrapAxis, wrap, imageAxis, minImage}
@@ -55,4 +56,35 @@ checked =
       below-half-stays = refl;
       epsilon-refused = refl;
       above-epsilon-valid = refl;
+    }
+
+-- one axis at the edges of what is found without a division: zeros, halves, a separation over an extent, extents that are no length; and in the
+-- last three places what the comparisons alone would give (`foldOf`)
+pub record Edges : Type 0 where
+  -- at extent 10 the image of -0 is +0, and of the numbers next to 5 and -5 the one below in size stays
+  pub minus-zero-loses-sign : imageAxis (ofBits binary32 0x8000_0000) (ofBits binary32 ten) ≡ ofBits binary32 0
+  pub under-half-stays : imageAxis (ofBits binary32 0x409f_ffff) (ofBits binary32 ten) ≡ ofBits binary32 0x409f_ffff
+  pub over-minus-half-stays : imageAxis (ofBits binary32 0xc09f_ffff) (ofBits binary32 ten) ≡ ofBits binary32 0xc09f_ffff
+  -- at extent 16 that of -25 is 7, not -9
+  pub two-extents : imageAxis (ofBits binary32 0xc1c8_0000) (ofBits binary32 0x4180_0000) ≡ ofBits binary32 0x40e0_0000
+  pub two-extents-folded : foldOf binary32 (ofBits binary32 0xc1c8_0000) (ofBits binary32 0x4180_0000) ≡ ofBits binary32 0xc110_0000
+  -- of 1 at an infinite extent it is no number, not 1, and of 0 at extent 0 not 0
+  pub infinite-extent : imageAxis (ofBits binary32 0x3f80_0000) (ofBits binary32 0x7f80_0000) ≡ nan
+  pub infinite-extent-folded : foldOf binary32 (ofBits binary32 0x3f80_0000) (ofBits binary32 0x7f80_0000) ≡ ofBits binary32 0x3f80_0000
+  pub no-extent : imageAxis (ofBits binary32 0) (ofBits binary32 0) ≡ nan
+  pub no-extent-folded : foldOf binary32 (ofBits binary32 0) (ofBits binary32 0) ≡ ofBits binary32 0
+
+pub edges : Edges
+unfolding imageAxis roundOf ofBits neg add sub mul div lt le
+edges =
+    record {
+      minus-zero-loses-sign = refl;
+      under-half-stays = refl;
+      over-minus-half-stays = refl;
+      two-extents = refl;
+      two-extents-folded = refl;
+      infinite-extent = refl;
+      infinite-extent-folded = refl;
+      no-extent = refl;
+      no-extent-folded = refl;
     }

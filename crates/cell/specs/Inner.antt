@@ -1,13 +1,14 @@
 -- What only contracts of inner functions cite. Definitions only. Assumes nothing.
 use mathlib.Core.Bool.{Bool, _&&_}
-use lib.Ieee.{binary32, div}
-use Rattle.floats.specs.Inner.{nearZero}
+use lib.Ieee.{Float, neg, lt}
+use lib.Ieee.Scale.{finite}
 use Rattle.cell.specs.declared.Vec3.{Vec3}
 
--- a separation counted in extents, d / extent, and whether it is near zero on all axes
-unfoldable pub inExtents : Vec3 → Vec3 → Vec3
-inExtents d e = record { x = div binary32 (d .x) (e .x); y = div binary32 (d .y) (e .y); z = div binary32 (d .z) (e .z) }
+-- e is finite, and d is below it in size
+unfoldable pub withinAxis : Float → Float → Bool
+withinAxis d e = finite e && (lt d e && lt (neg e) d)
 
-unfoldable pub nearAll : Vec3 → Bool
-unfolding nearZero
-nearAll q = nearZero (q .x) && (nearZero (q .y) && nearZero (q .z))
+-- on all axes
+unfoldable pub withinAll : Vec3 → Vec3 → Bool
+unfolding withinAxis
+withinAll d e = withinAxis (d .x) (e .x) && (withinAxis (d .y) (e .y) && withinAxis (d .z) (e .z))

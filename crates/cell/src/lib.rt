@@ -1,14 +1,13 @@
 // The cell of a frame and the geometry in it (docs/RULES.md, 'Cell'): extent, validity, wrap, minimum image, squared
 // distance, volume. Lengths are in angstrom. Every f32 operation rounds once, left to right.
 ghost use mathlib.Core.Path.{_≡_};
-ghost use mathlib.Core.Bool.{true};
+ghost use mathlib.Core.Bool.{true, cond};
 ghost use Prim.Native.Nat.{_+_, _*_, _<_};
 ghost use lib.ListN.{length};
-ghost use lib.Ieee.{binary32, div};
+ghost use lib.Ieee.{binary32, ofBits};
 ghost use Rattle.base.specs.Entry.{old};
-ghost use Rattle.floats.specs.Inner.{nearZero};
 ghost use Rattle.cell.specs.Cell.{wrapAxis, imageAxis, validAxis, extentOf, valid, wrap as wrapOf, minImage, squared, minus, distance2, volumeOf, pointAt, finitePoint};
-ghost use Rattle.cell.specs.Inner.{inExtents, nearAll};
+ghost use Rattle.cell.specs.Inner.{withinAxis, withinAll};
 
 // f32 EPSILON, 2^-23: an extent at or below it makes a cell not valid.
 pub const EPSILON: f32 = 1.1920929e-7;
@@ -56,10 +55,40 @@ fn wrap_axis(p: f32, low: f32, e: f32) -> f32
     p - e * numbers::whole::floor32((p - low) / e)
 }
 
+// A number that was found without a division, and whether it is sure to be the one asked for.
+pub struct Folded {
+    pub sure: bool,
+    pub value: f32,
+}
+
+// a where t holds, else 0.
+fn masked(t: bool, a: f32) -> f32
+    ensures { λ r. ⌜ r ≡ cond t a (ofBits binary32 0) ⌝ }
+{
+    if t { a } else { 0.0 }
+}
+
+// One axis of the minimum image for a separation below the extent, which is d or an extent from it: two comparisons, no division, and no
+// branch at half the extent, which would be guessed wrong on every other separation. d + 0.0 makes -0 +0, as the division's form does.
+pub fn fold_axis(d: f32, e: f32) -> Folded
+    ensures sure { λ r. ⌜ r .sure ≡ withinAxis d e ⌝ }
+    ensures value { λ r. ⌜ (r .sure ≡ true → r .value ≡ imageAxis d e) ⌝ }
+{
+    let twice = d + d;
+    Folded {
+        sure: numbers::class::is_finite32(e) & ((d < e) & (-e < d)),
+        value: d + 0.0 - (masked(e <= twice, e) - masked(twice <= -e, e)),
+    }
+}
+
 // One axis of the minimum image: the separation moved by whole extents to the nearest to zero, but for rounding.
 pub fn image_axis(d: f32, e: f32) -> f32
     ensures { λ r. ⌜ r ≡ imageAxis d e ⌝ }
 {
+    let folded = fold_axis(d, e);
+    if folded.sure {
+        return folded.value;
+    }
     d - e * numbers::whole::round32(d / e)
 }
 
@@ -104,54 +133,35 @@ pub fn magnitude_squared(d: Vec3) -> f32
     d.x * d.x + d.y * d.y + d.z * d.z
 }
 
-fn in_extents(d: Vec3, e: Vec3) -> Vec3
-    ensures { λ r. ⌜ r ≡ inExtents d e ⌝ }
+// The squared distance of two points that are less than an extent apart on all axes, without a division.
+pub fn fold_distance(e: Vec3, p: Vec3, q: Vec3) -> Folded
+    ensures sure { λ r. ⌜ r .sure ≡ withinAll (minus q p) e ⌝ }
+    ensures value { λ r. ⌜ (r .sure ≡ true → r .value ≡ distance2 e p q) ⌝ }
 {
-    Vec3 {
-        x: d.x / e.x,
-        y: d.y / e.y,
-        z: d.z / e.z,
-    }
-}
-
-fn near_all(q: Vec3) -> bool
-    ensures { λ r. ⌜ r ≡ nearAll q ⌝ }
-{
-    numbers::whole::near_zero32(q.x)
-        & (numbers::whole::near_zero32(q.y) & numbers::whole::near_zero32(q.z))
-}
-
-// One axis of the minimum image, given q, d / e, which is near zero: no branch.
-fn near_axis(d: f32, e: f32, q: f32) -> f32
-    requires { ⌜ (q ≡ div binary32 d e) × (nearZero q ≡ true) ⌝ }
-    ensures { λ r. ⌜ r ≡ imageAxis d e ⌝ }
-{
-    d - e * numbers::whole::round_near_zero32(q)
-}
-
-// As min_image, given d / e, where that is near zero on all axes.
-fn near_image(e: Vec3, d: Vec3, q: Vec3) -> Vec3
-    requires { ⌜ (q ≡ inExtents d e) × (nearAll q ≡ true) ⌝ }
-    ensures { λ r. ⌜ r ≡ minImage e d ⌝ }
-{
-    Vec3 {
-        x: near_axis(d.x, e.x, q.x),
-        y: near_axis(d.y, e.y, q.y),
-        z: near_axis(d.z, e.z, q.z),
+    let d = separation(p, q);
+    let x = fold_axis(d.x, e.x);
+    let y = fold_axis(d.y, e.y);
+    let z = fold_axis(d.z, e.z);
+    Folded {
+        sure: x.sure & (y.sure & z.sure),
+        value: magnitude_squared(Vec3 {
+            x: x.value,
+            y: y.value,
+            z: z.value,
+        }),
     }
 }
 
 // The squared distance of two points, by the minimum image, in a cell of extent e. Points in the cell are at most an extent apart, so that
-// the general form is for points outside.
+// the division is for points outside, or at two opposite bounds.
 pub fn distance_squared(e: Vec3, p: Vec3, q: Vec3) -> f32
     ensures { λ r. ⌜ r ≡ distance2 e p q ⌝ }
 {
-    let d = separation(p, q);
-    let turns = in_extents(d, e);
-    if near_all(turns) {
-        return magnitude_squared(near_image(e, d, turns));
+    let folded = fold_distance(e, p, q);
+    if folded.sure {
+        return folded.value;
     }
-    magnitude_squared(min_image(e, d))
+    magnitude_squared(min_image(e, separation(p, q)))
 }
 
 // The product of three sides, in order.

@@ -3,11 +3,12 @@
 ghost use mathlib.Core.Path.{_≡_};
 ghost use mathlib.Core.Bool.{true};
 ghost use mathlib.Core.List.{[]};
-ghost use Prim.Native.Nat.{_+_, _-_, _*_, _<_, _≤_};
-ghost use lib.ListN.{length};
-ghost use lib.Ieee.{binary64, ofBits};
+ghost use Prim.Native.Nat.{ℕ, _+_, _-_, _*_, _<_, _≤_};
+ghost use lib.ListN.{length, getD};
+ghost use lib.Ieee.{binary64, nan, ofBits};
 ghost use Rattle.base.specs.Entry.{old};
 ghost use Rattle.base.specs.Limits.{maxCopies};
+ghost use Rattle.cell.specs.Cell.{distance2, pointAt};
 ghost use Rattle.pick_lists.specs.Sound.{soundLists};
 ghost use Rattle.pick_lists.specs.Input.{given};
 ghost use Rattle.dispersion.specs.Dispersion.{clamped, expectedOf, rowSum, pairSum, observedOf, scoreOf, dispersionOf, dispersionAnswer};
@@ -41,19 +42,72 @@ fn expected(e: Vec3) -> f32
     roots::sqrt32(cell::magnitude_squared(e) / 12.0)
 }
 
+// s and the squared distances of center i to those from j up to end, in order.
+fn stretch_sum(e: Vec3, centers: &[f32], i: usize, j: usize, end: usize, s: f64) -> f64
+    requires { ⌜ (i < j) × (j ≤ end) × (end * 3 ≤ length (now centers)) ⌝ }
+    ensures { λ r. ⌜ r ≡ rowSum e (old centers) i (end - j) j s ⌝ }
+{
+    let a = cell::point(centers, i);
+    let mut sum = s;
+    let mut k = j;
+    while k < end {
+        sum = sum + numbers::convert::widen(cell::distance_squared(e, a, cell::point(centers, k)));
+        k += 1;
+    }
+    sum
+}
+
+// How many squared distances are found together.
+const BLOCK: usize = 16;
+
+// Writes the squared distances of center i to a block of centers from j on, without a division or a branch, so that the compiler makes code of
+// it for several at once. Answers whether all are sure.
+fn put_squares(e: Vec3, centers: &[f32], i: usize, j: usize, squares: &mut [f32]) -> bool
+    requires { ⌜ (i < j) × ((j + 16) * 3 ≤ length (now centers)) × (length (now squares) ≡ 16) ⌝ }
+    ensures { λ r. ⌜ (r ≡ true → (k : ℕ) → k < 16 → getD (now (squares .exit)) k nan ≡ distance2 e (pointAt (old centers) i) (pointAt (old centers) (j + k))) ⌝ }
+{
+    let a = cell::point(centers, i);
+    let mut sure = true;
+    let mut k = 0;
+    while k < BLOCK {
+        let folded = cell::fold_distance(e, a, cell::point(centers, j + k));
+        squares[k] = folded.value;
+        sure = sure & folded.sure;
+        k += 1;
+    }
+    sure
+}
+
+// s and the squared distances of center i to a block of centers from j on, in order.
+fn block_sum(e: Vec3, centers: &[f32], i: usize, j: usize, s: f64) -> f64
+    requires { ⌜ (i < j) × ((j + 16) * 3 ≤ length (now centers)) ⌝ }
+    ensures { λ r. ⌜ r ≡ rowSum e (old centers) i 16 j s ⌝ }
+{
+    let mut squares = [0f32; BLOCK];
+    if !put_squares(e, centers, i, j, &mut squares) {
+        return stretch_sum(e, centers, i, j, j + BLOCK, s);
+    }
+    let mut sum = s;
+    let mut k = 0;
+    while k < BLOCK {
+        sum = sum + numbers::convert::widen(squares[k]);
+        k += 1;
+    }
+    sum
+}
+
 // s and the squared distances of center i to the later ones.
 fn row_sum(e: Vec3, centers: &[f32], n: usize, i: usize, s: f64) -> f64
     requires { ⌜ (n * 3 ≤ length (now centers)) × (i < n) ⌝ }
     ensures { λ r. ⌜ r ≡ rowSum e (old centers) i (n - (i + 1)) (i + 1) s ⌝ }
 {
-    let a = cell::point(centers, i);
     let mut sum = s;
     let mut j = i + 1;
-    while j < n {
-        sum = sum + numbers::convert::widen(cell::distance_squared(e, a, cell::point(centers, j)));
-        j += 1;
+    while n - j >= BLOCK {
+        sum = block_sum(e, centers, i, j, sum);
+        j += BLOCK;
     }
-    sum
+    stretch_sum(e, centers, i, j, n, sum)
 }
 
 // The squared distances of all pairs of the first n centers, in order.

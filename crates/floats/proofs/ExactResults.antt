@@ -14,7 +14,7 @@ use lib.Ieee.Scale.{finite}
 use lib.Ieee.Positive.{num, den, den-pos}
 use Rattle.floats.specs.Standard.{gain, loss, sign}
 use Rattle.floats.proofs.Signs.{same-sign}
-use Rattle.floats.proofs.SameValue.{same-value, own-round, round-none}
+use Rattle.floats.proofs.SameValue.{none-is, own-round, round-none}
 use Rattle.floats.proofs.Signed.{G, L, Rounded, rounded-eq}
 use Rattle.floats.proofs.Operations.{add-rounded, sub-rounded, product-rounded, div-is, Nonzero, Gʳ, Lʳ, quotient-rounded, own-rounded}
 
@@ -114,10 +114,7 @@ pub plus-zero : (f : Format) (x : Float) → T (fits f x) → (x ≡ fin true 0 
 plus-zero f nan F h = unfold add in refl
 plus-zero f (inf s) F h = unfold add in refl
 plus-zero f (fin false m e) F h = with-zero f false m e false F tt
-plus-zero f (fin true zero e) F h = absurd (h (same-value f (fin true 0 e) (fin true 0 (pos 0)) F (unfold fits in tt) tt tt refl (nothing (up e) (down e))))
-  where
-    nothing : (u c : ℕ) → 0 * u * 1 ≡ 0 * 1 * c
-    nothing u c = omega arith
+plus-zero f (fin true zero e) F h = absurd (h (none-is f true e F))
 plus-zero f (fin true (suc m) e) F h = with-zero f true (suc m) e false F (lt→ltb 0 (suc m * up e) (mul-pos (zero-lt-suc m) (up-pos e)))
 
 pub minus-zero : (f : Format) (x : Float) → T (fits f x) → sub f x (fin false 0 (pos 0)) ≡ x

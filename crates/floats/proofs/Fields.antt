@@ -11,10 +11,10 @@ use lib.Arith.{lt→nleb}
 use lib.Pow.{pow-pos}
 use lib.Bits.{bitAnd, bitOr, and-mask, or-shifted-r}
 use lib.Ieee.{Float, nan, inf, fin, Format, prec, low, hid, ones, top, odd, neg, ofFields, ofBits}
-use lib.Ieee.Fits.{two, two-le-pos, eq→eqb}
+use lib.Ieee.Fits.{eq→eqb}
 use lib.Ieee.Bits.{is-true, is-false, cond-no}
 use lib.Ieee.Exact.{HasValue, odd-sign}
-use Rattle.floats.proofs.Powers.{pow-halved}
+use Rattle.floats.proofs.Held.{hid-twice}
 use Rattle.floats.proofs.Signs.{plain, plain-odd, neg-odd}
 
 pub ofBits-is : (f : Format) (b : ℕ) → ofBits f b ≡ ofFields f (leb (top f) b) (b % top f / hid f) (b % hid f)
@@ -76,7 +76,7 @@ normal-value f b j h e o =
 pub with-lead : (f : Format) (b : ℕ) → hid f + b % hid f < 2 ^ prec f
 with-lead f b =
     let l : b % hid f < hid f = mod-lt b (hid-pos f) in
-    let e : 2 ^ prec f ≡ 2 * 2 ^ (prec f - 1) = pow-halved (prec f) (two-le-pos (prec f) (two f)) in
+    let e : 2 ^ prec f ≡ 2 * 2 ^ (prec f - 1) = hid-twice f in
     omega arith
 
 -- up to infinity's pattern there is no NaN, and no minus sign

@@ -3,7 +3,7 @@
 use mathlib.Core.Path.{_≡_, sym, ap, _∙_}
 use mathlib.Core.Logic.{inl, inr}
 use Prim.Native.Nat.{ℕ, suc, _+_, _*_, _/_, _%_, _≤_, _<_}
-use native.Mathlib.Nat.{le-trans, le-antisymm, le-of-eq, lt-of-lt-of-le, zero-lt-suc, eq-or-lt-of-le, one-mul, suc-mul, mul-comm, mul-pos, mul-le-mul-right, le-of-mul-le-mul-right, lt-of-mul-lt-mul-right, div-eq-of-lt, div-add-mod', div-mul-le-self, lt-div-mul-add, div-le-of-le-mul, le-div-iff-mul-le, div-lt-iff-lt-mul, div-div-eq-div-mul, add-mul-div-right, mul-mod-left}
+use native.Mathlib.Nat.{le-trans, le-antisymm, le-of-eq, lt-of-lt-of-le, zero-lt-suc, eq-or-lt-of-le, suc-mul, mul-comm, mul-pos, mul-le-mul-right, le-of-mul-le-mul-right, lt-of-mul-lt-mul-right, div-eq-of-lt, div-add-mod', div-mul-le-self, lt-div-mul-add, div-le-of-le-mul, div-lt-iff-lt-mul, le-div-iff-mul-le, mul-mod-left}
 use native.Mathlib.Omega.{arith}
 use mathlib.Core.Bool.{Bool, true, false, cond}
 use lib.Dec.{T, eqb, eqb→eq}
@@ -87,10 +87,3 @@ half-unit a c C l h =
   where
     only : (x : ℕ) → 1 ≤ x → x < 2 → x ≡ 1
     only x d u = omega arith
-
--- from the whole part of twice the fraction
-pub half-twice : (a c : ℕ) → 0 < c → (2 * a / c + 1) / 2 ≡ halfUp a c
-half-twice a c C =
-    ap (λ (k : ℕ). k / 2) (sym (ap (λ (k : ℕ). (2 * a + k) / c) (sym (one-mul c)) ∙ add-mul-div-right (2 * a) 1 C))
-    ∙ div-div-eq-div-mul (2 * a + c) c 2
-    ∙ ap (λ (k : ℕ). (2 * a + c) / k) (mul-comm c 2)

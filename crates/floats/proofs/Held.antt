@@ -1,17 +1,18 @@
 -- What it is for a format to hold a value: the digits are few, and in units of the format's smallest value the size is a whole number below the overflow.
 -- Assumes nothing.
-use mathlib.Core.Path.{_≡_, sym, ap, _∙_}
+use mathlib.Core.Path.{_≡_, refl, sym, ap, _∙_}
 use Prim.Native.Nat.{ℕ, zero, suc, _+_, _-_, _*_, _%_, _^_, _≤_, _<_}
-use native.Mathlib.Nat.{le-of-eq, le-of-suc-le-suc, lt-of-lt-of-le, lt-of-le-of-lt, lt-suc-self, mul-one, zero-mul, mul-comm, mul-right-comm, mul-lt-mul-of-pos-right, lt-of-mul-lt-mul-right}
+use native.Mathlib.Nat.{le-trans, le-of-eq, le-of-suc-le-suc, lt-of-lt-of-le, lt-of-le-of-lt, lt-suc-self, mul-one, zero-mul, mul-comm, mul-right-comm, mul-le-mul-right, mul-lt-mul-of-pos-right, lt-of-mul-lt-mul-right}
+use native.Mathlib.Omega.{arith}
 use mathlib.Core.Bool.{Bool, _&&_}
 use lib.IntN.{ℤ, pos, negsuc}
 use lib.Dec.{T, leb, ltb, eqb, leb→le, ltb→lt, lit≤}
 use lib.Pow.{pow-add, pow-pos, pow-lt}
-use lib.Ieee.{Float, nan, inf, fin, Format, binary32, binary64, prec, emax, low, up, down, fits}
-use lib.Ieee.Fits.{and-l, and-r}
+use lib.Ieee.{Float, nan, inf, fin, Format, binary32, binary64, prec, emax, low, hid, up, down, fits}
+use lib.Ieee.Fits.{two, two-le-pos, and-l, and-r}
 use lib.Ieee.Scale.{finite}
 use lib.Ieee.Positive.{num, den}
-use Rattle.floats.proofs.Powers.{pow-join, pow-shift, pow-lt-back}
+use Rattle.floats.proofs.Powers.{pow-halved, pow-join, pow-shift, pow-lt-back}
 
 -- ---- facts of the two formats
 pub low-ge : (f : Format) → prec f + prec f ≤ low f
@@ -25,6 +26,27 @@ prec-le binary64 = lit≤ tt
 pub emax-pos : (f : Format) → 1 ≤ emax f
 emax-pos binary32 = lit≤ tt
 emax-pos binary64 = lit≤ tt
+
+pub hid-even : (f : Format) → hid f % 2 ≡ 0
+hid-even binary32 = refl
+hid-even binary64 = refl
+
+pub hid-twice : (f : Format) → 2 ^ prec f ≡ 2 * hid f
+hid-twice f = pow-halved (prec f) (two-le-pos (prec f) (two f))
+
+pub low-halved : (f : Format) → 2 ^ low f ≡ 2 * 2 ^ (low f - 1)
+low-halved f = pow-halved (low f) (lt-of-lt-of-le (two-le-pos (prec f) (two f)) (le-trans (more (prec f)) (low-ge f)))
+  where
+    more : (p : ℕ) → p ≤ p + p
+    more p = omega arith
+
+-- whole numbers up to 2 ^ prec are far below the overflow
+pub no-overflow : (f : Format) (n : ℕ) → n ≤ 2 ^ prec f → n * 2 ^ low f < 2 ^ (low f + suc (emax f))
+no-overflow f n h =
+    lt-of-le-of-lt (le-trans (mul-le-mul-right (2 ^ low f) h) (le-of-eq (sym (pow-add 2 (prec f) (low f))))) (pow-lt (further (prec f) (low f) (emax f) (prec-le f)))
+  where
+    further : (p l e : ℕ) → p ≤ e → p + l < l + suc e
+    further p l e k = omega arith
 
 -- ---- the parts of `fits`
 record Parts (f : Format) (m : ℕ) (e : ℤ) : Type 0 where

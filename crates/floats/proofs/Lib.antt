@@ -52,10 +52,14 @@ pub mod FloorOrder
 pub mod Monotone
 -- y * whole (x / y) is within bounds, however small y is
 pub mod Image
+-- y * round (x / y) taken from an x below y in size, without the division
+pub mod Folding
 -- the arms of `floor_any32` and `floor32`
 pub mod FloorArms
--- the arms of `round_size32` and `round32`
-pub mod RoundArms
+-- a sum that has no room for a fraction
+pub mod WholeSum
+-- the arms of `round32`: rounding by such a sum
+pub mod WholeBySum
 -- ---- bit patterns
 -- which patterns are NaNs
 pub mod Patterns

@@ -1,9 +1,9 @@
 -- The whole number nearest to n / u, a tie to the even one (`closest` of lib.Ieee.Nearest): how near it is, and how it stands to any other whole
--- number (`close-verdict`). Nothing here is about floats. Assumes nothing.
-use mathlib.Core.Path.{_≡_, refl, ap, _∙_, subst}
+-- number (`close-verdict`) and to a half up (`half-next`, `half-same`). Nothing here is about floats. Assumes nothing.
+use mathlib.Core.Path.{_≡_, refl, ap, ap₂, _∙_, subst}
 use mathlib.Core.Logic.{_⊎_, inl, inr}
 use Prim.Native.Nat.{ℕ, zero, suc, _+_, _*_, _/_, _%_, _≤_, _<_, compare, Ordering, Ordering·lt, Ordering·eq, Ordering·gt}
-use native.Mathlib.Nat.{zero-lt-suc, eq-or-lt-of-le, suc-mul, eq-of-mul-eq-mul-right, div-add-mod', mod-lt}
+use native.Mathlib.Nat.{zero-lt-suc, eq-or-lt-of-le, suc-mul, eq-of-mul-eq-mul-right, div-add-mod', mod-lt, div-eq-of-lt-le, mul-add-div-right, mul-add-mod-self-right}
 use native.Mathlib.Omega.{arith}
 use native.Mathlib.Decide.{decLe}
 use mathlib.Core.Bool.{not}
@@ -11,6 +11,7 @@ use lib.Dec.{T, isLe, isEq, eqb, eqb-refl, leb→le, nleb→lt, eqb→eq}
 use lib.Arith.{lt-of-le-ne}
 use lib.Ieee.{nearest}
 use lib.Ieee.Nearest.{closest}
+use Rattle.floats.specs.Whole.{halfUp}
 use Rattle.floats.specs.Standard.{gap}
 use Rattle.floats.proofs.Fractions.{step}
 
@@ -163,3 +164,20 @@ close-tie n u q b U c other e = go (decLe (suc b) q)
         let w : 2 * n ≡ 2 * (q * u) + u = tie-over n (q * u) (b * u) u U (c .above) l e in
         let z = tie-last n (q * u) (b * u) u U w l e in
         (odd-over b q (next q b (z .0)) (c .above-even w), z .1)
+
+-- ---- an even number of c's goes through `closest`
+pub closest-shift : (P a c : ℕ) → 0 < c → P % 2 ≡ 0 → closest (P * c + a) c ≡ P + closest a c
+closest-shift P a c C E =
+    ap₂ (λ (q r : ℕ). nearest q (compare (r * 2) c)) (mul-add-div-right C P a) (mul-add-mod-self-right P c a) ∙ go (a / c) (compare (a % c * 2) c)
+  where
+    go : (q : ℕ) (o : Ordering) → nearest (P + q) o ≡ P + nearest q o
+    go q Ordering·lt = refl
+    go q Ordering·eq = omega arith
+    go q Ordering·gt = omega arith
+
+-- ---- q against a half up: one less where q and a half is not above a / c, and else the same
+pub half-next : (a c q : ℕ) → 0 < c → Close a c q → (q * 2 + 1) * c ≤ a * 2 → halfUp a c ≡ suc q
+half-next a c q C k h = div-eq-of-lt-le (2 * c) (omega (arith, k .above)) (omega (arith, k .above))
+
+pub half-same : (a c q : ℕ) → Close a c q → a * 2 < (q * 2 + 1) * c → halfUp a c ≡ q
+half-same a c q k h = div-eq-of-lt-le (2 * c) (omega (arith, k .below)) (omega arith)

@@ -133,7 +133,7 @@ sum-swap f true a true b c = ap (λ (n : ℕ). round f true n c) (add-comm a b)
 sum-swap f false a true b c = difference-swap f a b c (ltb a b) (ltb b a) (ltb→lt a b) (ltb→lt b a) (nltb→le a b) (nltb→le b a)
 sum-swap f true a false b c = sym (difference-swap f b a c (ltb b a) (ltb a b) (ltb→lt b a) (ltb→lt a b) (nltb→le b a) (nltb→le a b))
 
-add-swap : (f : Format) (x y : Float) → add f x y ≡ add f y x
+pub add-swap : (f : Format) (x y : Float) → add f x y ≡ add f y x
 unfolding add
 add-swap f nan nan = refl
 add-swap f nan (inf t) = refl

@@ -2,14 +2,16 @@
 -- Assumes nothing.
 use mathlib.Core.Path.{_≡_, refl, sym, ap, ap₂, _∙_, subst}
 use Prim.Native.Nat.{ℕ, _+_, _-_, _*_, _≤_, _<_}
-use native.Mathlib.Nat.{le-of-eq, not-le-of-lt, add-comm, mul-comm}
+use native.Mathlib.Nat.{le-of-eq, not-le-of-lt, zero-lt-suc, add-comm, mul-comm, mul-pos}
 use native.Mathlib.Omega.{arith}
 use mathlib.Core.Bool.{Bool, true, false, not, cond}
 use lib.IntN.{ℤ}
 use lib.Dec.{T, ltb, eqb, ltb→lt, nltb→le, eqb→eq, not-T}
 use lib.Ieee.{Float, nan, inf, fin, Format, unlike, up, down, round, neg, sum, add, sub, mul, div, fits, isNan}
+use lib.Ieee.Fits.{down-pos}
 use lib.Ieee.Bits.{cond-no}
-use lib.Ieee.Scale.{finite}
+use lib.Ieee.Exact.{HasValue}
+use lib.Ieee.Scale.{finite, round-same}
 use lib.Ieee.Positive.{num, den}
 use Rattle.floats.specs.Standard.{gain, loss, sign}
 use Rattle.floats.proofs.Differences.{gain-mul, loss-mul, gain-not, loss-not, product-val}
@@ -81,6 +83,61 @@ sub-rounded f x (fin t n d) p q =
     (ap (λ (k : ℕ). G x * down d + k * den x) (gain-not t b))
     (ap (λ (k : ℕ). L x * down d + k * den x) (loss-not t b))
     (add-rounded f x (fin (not t) n d) p tt)
+
+-- ---- a sum of two values with one sign, by any fractions that they are
+sum-like : (f : Format) (s : Bool) (a b c : ℕ) → sum f s a s b c ≡ round f s (a + b) c
+unfolding sum
+sum-like f false a b c = refl
+sum-like f true a b c = refl
+
+pub add-at : (f : Format) (s : Bool) (x y : Float) (a c b d : ℕ) → 0 < c → 0 < d → HasValue x s a c → HasValue y s b d
+    → add f x y ≡ round f s (a * d + b * c) (c * d)
+unfolding add
+add-at f s nan y a c b d C D v w = absurd v
+add-at f s (inf t) y a c b d C D v w = absurd v
+add-at f s (fin t m e) nan a c b d C D v w = absurd w
+add-at f s (fin t m e) (inf u) a c b d C D v w = absurd w
+add-at f s (fin t m e) (fin u n g) a c b d C D v w =
+    let X = m * up e in
+    let Y = n * up g in
+    ap₂ (λ (i j : Bool). sum f i (X * down g) j (Y * down e) (down e * down g)) (v .0) (w .0)
+    ∙ sum-like f s (X * down g) (Y * down e) (down e * down g)
+    ∙ round-same f s (X * down g + Y * down e) (down e * down g) (a * d + b * c) (c * d) (mul-pos (down-pos e) (down-pos g)) (mul-pos C D)
+    (cross X (down e) Y (down g) (v .1) (w .1))
+  where
+    cross : (X E Y G : ℕ) → X * c ≡ a * E → Y * d ≡ b * G → (X * G + Y * E) * (c * d) ≡ (a * d + b * c) * (E * G)
+    cross X E Y G h k =
+        let p : X * c * (G * d) ≡ a * E * (G * d) = ap (λ (z : ℕ). z * (G * d)) h in
+        let q : Y * d * (E * c) ≡ b * G * (E * c) = ap (λ (z : ℕ). z * (E * c)) k in
+        omega arith
+
+-- ---- a whole number less one that is not above it is +0 or above
+sum-less : (f : Format) (a b c : ℕ) → b ≤ a → sum f false a true b c ≡ round f false (a - b) c
+unfolding sum
+sum-less f a b c h = go (ltb a b) (ltb→lt a b)
+  where
+    go : (t : Bool) → (T t → a < b) → cond t (round f true (b - a) c) (round f false (a - b) c) ≡ round f false (a - b) c
+    go true k = absurd (not-le-of-lt (k tt) h)
+    go false k = refl
+
+pub sub-whole : (f : Format) (x y : Float) (i j : ℕ) → HasValue x false (j + i) 1 → HasValue y false j 1 → sub f x y ≡ round f false i 1
+unfolding sub add neg
+sub-whole f nan y i j v w = absurd v
+sub-whole f (inf t) y i j v w = absurd v
+sub-whole f (fin t m e) nan i j v w = absurd w
+sub-whole f (fin t m e) (inf u) i j v w = absurd w
+sub-whole f (fin t m e) (fin u n g) i j v w =
+    let A = m * up e * down g in
+    let B = n * up g * down e in
+    let D = down e * down g in
+    let a : A ≡ (j + i) * D = over (m * up e) (down e) (down g) (j + i) (v .1) in
+    let b : B ≡ j * D = over (n * up g) (down g) (down e) j (w .1) ∙ ap (λ (z : ℕ). j * z) (mul-comm (down g) (down e)) in
+    ap₂ (λ (s r : Bool). sum f s A (not r) B D) (v .0) (w .0)
+    ∙ sum-less f A B D (omega arith)
+    ∙ round-same f false (A - B) D i 1 (mul-pos (down-pos e) (down-pos g)) (zero-lt-suc 0) (omega arith)
+  where
+    over : (X E G k : ℕ) → X * 1 ≡ k * E → X * G ≡ k * (E * G)
+    over X E G k h = let p : X * 1 * G ≡ k * E * G = ap (λ (z : ℕ). z * G) h in omega arith
 
 -- ---- products
 pub product-rounded : (f : Format) (x y : Float) → T (finite x) → T (finite y)

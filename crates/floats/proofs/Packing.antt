@@ -18,7 +18,7 @@ use lib.Ieee.Scale.{finite, overflow}
 use Rattle.floats.specs.Standard.{sign}
 use Rattle.floats.proofs.Powers.{pow-halved, size-gt, size-is}
 use Rattle.floats.proofs.Signs.{plain, value-finite, value-parts}
-use Rattle.floats.proofs.Held.{InUnits}
+use Rattle.floats.proofs.Held.{InUnits, hid-even}
 use Rattle.floats.proofs.SameValue.{bits-at}
 
 -- ---- over whole numbers: q * 2 ^ k has p digits and k more, or q is 2 ^ p
@@ -85,10 +85,6 @@ mul-even x h e = ap (λ (k : ℕ). x * k % 2) (halved h e) ∙ ap (λ (k : ℕ).
   where
     halved : (k : ℕ) → k % 2 ≡ 0 → k ≡ k / 2 * 2
     halved k z = omega arith
-
-hid-even : (f : Format) → hid f % 2 ≡ 0
-hid-even binary32 = refl
-hid-even binary64 = refl
 
 sign-even : (f : Format) (s : Bool) → cond s (top f) 0 % 2 ≡ 0
 sign-even f false = refl

@@ -1,8 +1,9 @@
 -- A format writes a number in one way: two of its values with one sign and one size are the same data (`same-value`), so a value is its own rounding
 -- (`own-round`). For the bit pattern turns on the sign and the size alone, and a value comes back from its pattern. Assumes nothing.
-use mathlib.Core.Path.{_≡_, sym, ap, _∙_}
+use mathlib.Core.Path.{_≡_, refl, sym, ap, _∙_}
 use Prim.Native.Nat.{ℕ, _+_, _-_, _*_, _/_, _^_, _<_}
 use native.Mathlib.Nat.{zero-mul, mul-right-comm, eq-of-mul-eq-mul-right, mul-div-cancel}
+use native.Mathlib.Omega.{arith}
 use mathlib.Core.Bool.{Bool, cond}
 use lib.IntN.{ℤ, pos}
 use lib.Dec.{T, lit<}
@@ -44,6 +45,13 @@ same-value f x y p q a b h k =
     mul-right-comm (num y) L (den x) ∙ ap (λ (n : ℕ). n * L) (sym k) ∙ mul-right-comm (num x) (den y) L ∙ ap (λ (n : ℕ). n * den y) (g .3)
     ∙ mul-right-comm G (den x) (den y) in
     same-units f x y G p q a b h (g .3) (eq-of-mul-eq-mul-right (den x) (den-pos x) (num y * L) (G * den y) moved)
+
+-- a zero has no exponent
+pub none-is : (f : Format) (s : Bool) (e : ℤ) → T (fits f (fin s 0 e)) → fin s 0 e ≡ fin s 0 (pos 0)
+none-is f s e h = same-value f (fin s 0 e) (fin s 0 (pos 0)) h (unfold fits in tt) tt tt refl (nothing (up e) (down e))
+  where
+    nothing : (u c : ℕ) → 0 * u * 1 ≡ 0 * 1 * c
+    nothing u c = omega arith
 
 -- ---- a value of the format is its own rounding
 own-value : (f : Format) (s : Bool) (m : ℕ) (e : ℤ) → T (fits f (fin s m e)) → HasValue (round f s (m * up e) (down e)) s (m * up e) (down e)

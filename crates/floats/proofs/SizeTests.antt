@@ -1,4 +1,4 @@
--- What the tests of `floor_any32` and `round_size32` say of x: it is above zero and small (`Small`), its negative is, it is large (`Large`), or it is
+-- What the tests of `floor_any32` say of x: it is above zero and small (`Small`), its negative is, it is large (`Large`), or it is
 -- nothing but a zero or a NaN (`Nothing`). And what the language's conversions ask and give. Assumes nothing.
 use mathlib.Core.Path.{_≡_, refl, sym, _∙_}
 use Prim.Native.Nat.{ℕ, zero, suc, _+_, _-_, _*_, _/_, _^_, _≤_, _<_, min}

@@ -9,16 +9,15 @@ use lib.IntN.{ℤ, pos, negsuc}
 use lib.Dec.{T}
 use lib.Pow.{pow-mono}
 use lib.Ieee.{Float, nan, inf, fin, Format, prec, up, down, round, neg, mul, ofInt, le, fits, isNan}
-use lib.Ieee.Fits.{two, two-le-pos, down-pos}
+use lib.Ieee.Fits.{down-pos}
 use lib.Ieee.Exact.{HasValue}
 use lib.Ieee.Back.{round-whole}
 use lib.Ieee.Scale.{finite}
 use lib.Ieee.Positive.{num, den, positive}
 use Rattle.floats.specs.Whole.{ceiling, halfUp, floorOf, roundOf}
-use Rattle.floats.proofs.Powers.{pow-halved}
 use Rattle.floats.proofs.Fractions.{part-le, ceiling-le, ceiling-one, half-le, half-one}
 use Rattle.floats.proofs.Signs.{neg-round, round-number, same-sign}
-use Rattle.floats.proofs.Held.{fits-digits}
+use Rattle.floats.proofs.Held.{hid-twice, fits-digits}
 use Rattle.floats.proofs.SameValue.{own-round, round-none}
 use Rattle.floats.proofs.ExactResults.{times-none}
 use Rattle.floats.proofs.Signed.{Below, le→Le, round-le}
@@ -64,7 +63,7 @@ round-rounds f = record { at-nan = refl; at-inf = λ s. refl; at-fin = λ s m e.
 big-whole : (f : Format) (s : Bool) (m k : ℕ) → T (fits f (fin s m (negsuc k))) → 2 ^ (prec f - 1) * 2 ^ suc k ≤ m * 1 → ⊥
 big-whole f s m k h g =
     let d : m < 2 ^ prec f = fits-digits f s m (negsuc k) h in
-    let a : 2 ^ prec f ≡ 2 * 2 ^ (prec f - 1) = pow-halved (prec f) (two-le-pos (prec f) (two f)) in
+    let a : 2 ^ prec f ≡ 2 * 2 ^ (prec f - 1) = hid-twice f in
     let b : 2 ^ (prec f - 1) * 2 ^ 1 ≤ 2 ^ (prec f - 1) * 2 ^ suc k = mul-le-mul-left (2 ^ (prec f - 1)) (pow-mono {i = 1} {j = suc k} (zero-lt-suc k)) in
     omega arith
 

@@ -14,9 +14,13 @@ use Rattle.leaf.specs.Leaf.{halfSide, withinHalf, inShell}
 abbrev inside : Float → Float → Float → Float → Bool
 inside p q side whole = withinHalf (imageAxis (sub binary32 q p) whole) (halfSide side whole)
 
+-- from the parts: the separation d, its image a, the half side h and the test's answer t
+pub axis-is : (p q side whole d a h : Float) (t : Bool) → d ≡ sub binary32 q p → a ≡ imageAxis d whole → h ≡ halfSide side whole → t ≡ withinHalf a h → t ≡ inside p q side whole
+axis-is p q side whole d a h t on-d on-a on-h on-t = on-t ∙ rw (on-h, on-a, on-d) refl
+
 -- x, y and z are what the axes say
 module _ (c : Cell) (b : OctreeBounds) (w e : Vec3) (is : e ≡ extentOf c) (x : Bool) (on-x : x ≡ inside (b .center .x) (w .x) (b .extent .x) (e .x)) where
-  shell-is : (y z : Bool) → y ≡ inside (b .center .y) (w .y) (b .extent .y) (e .y) → z ≡ inside (b .center .z) (w .z) (b .extent .z) (e .z) → inShell c b w ≡ (x && (y && z))
+  pub shell-is : (y z : Bool) → y ≡ inside (b .center .y) (w .y) (b .extent .y) (e .y) → z ≡ inside (b .center .z) (w .z) (b .extent .z) (e .z) → inShell c b w ≡ (x && (y && z))
   unfolding inShell minImage minus
   shell-is y z on-y on-z = rw (on-x, on-y, on-z, is) refl
 

@@ -1,9 +1,9 @@
 -- The waters in a leaf's shell, counted one after the other. Assumes nothing.
-use mathlib.Core.Path.{_≡_}
-use mathlib.Core.Bool.{true, false}
+use mathlib.Core.Path.{_≡_, sym, subst}
+use mathlib.Core.Bool.{Bool, true, false, cond}
 use mathlib.Core.List.{List}
 use Prim.Native.Nat.{ℕ, suc, _+_, _-_, _≤_, _<_}
-use native.Mathlib.Nat.{sub-zero, zero-add}
+use native.Mathlib.Nat.{sub-zero, zero-add, add-zero}
 use native.Mathlib.Omega.{arith}
 use lib.Ieee.{Float}
 use Rattle.cell.specs.declared.Cell.{Cell}
@@ -34,6 +34,11 @@ module _ {c : Cell} {b : OctreeBounds} {ws : List Float} {m : ℕ} where
       let more : m - i ≡ suc (m - (i + 1)) = omega arith in
       let total : n + (0 + shellFrom c b ws (m - (i + 1)) (i + 1)) ≡ shellFrom c b ws m 0 = rw (more, f) at (z .total) in
       record { within = omega arith; few = omega (arith, z .few); total = omega arith }
+
+  -- by the test's answer
+  pub seeing-next : {i n : ℕ} (t : Bool) → i < m → inShell c b (pointAt ws i) ≡ t → Seeing c b ws m i n → Seeing c b ws m (i + 1) (n + cond t 1 0)
+  seeing-next true h f z = seeing-in h f z
+  seeing-next {i} {n} false h f z = subst (Seeing c b ws m (i + 1)) (sym (add-zero n)) (seeing-out h f z)
 
   pub seeing-last : {i n : ℕ} → m ≤ i → Seeing c b ws m i n → (n ≡ shellFrom c b ws m 0) × (n ≤ m)
   unfolding shellFrom

@@ -2,6 +2,7 @@
 // `water_count_in_expanded_bounds`, the ratio of `occupancy_count_score`, `reference_octree_leaf_volume` and `partition_size_score`. Every
 // f32 operation rounds once, left to right. Lengths are in angstrom.
 ghost use mathlib.Core.Path.{_≡_};
+ghost use mathlib.Core.Bool.{true, cond};
 ghost use Prim.Native.Nat.{_*_, _≤_};
 ghost use lib.ListN.{length};
 ghost use lib.Ieee.{binary32, sub};
@@ -66,8 +67,66 @@ fn in_shell(cell: Cell, b: OctreeBounds, w: Vec3) -> bool
     axis_in_shell(b.center.z, w.z, b.extent.z, e.z)
 }
 
-// How many of the first m waters are in the shell of a box.
-pub fn shell_waters(cell: Cell, b: OctreeBounds, waters: &[f32], m: usize) -> usize
+// Whether a water is in a shell, found without a division, and whether that is sure.
+struct Seen {
+    sure: bool,
+    inside: bool,
+}
+
+// The same for a water that is less than an extent from the box center on all axes, without a division or a branch.
+fn fold_in_shell(cell: Cell, b: OctreeBounds, w: Vec3) -> Seen
+    ensures { λ r. ⌜ (r .sure ≡ true → r .inside ≡ inShell cell b w) ⌝ }
+{
+    let e = cell::extent(cell);
+    let d = cell::separation(b.center, w);
+    let x = cell::fold_axis(d.x, e.x);
+    let y = cell::fold_axis(d.y, e.y);
+    let z = cell::fold_axis(d.z, e.z);
+    let on_x = within(x.value, half_side(b.extent.x, e.x));
+    let on_y = within(y.value, half_side(b.extent.y, e.y));
+    let on_z = within(z.value, half_side(b.extent.z, e.z));
+    Seen {
+        sure: x.sure & (y.sure & z.sure),
+        inside: on_x & (on_y & on_z),
+    }
+}
+
+// How many waters are in a shell, found without a division, and whether that is sure.
+struct Counted {
+    sure: bool,
+    waters: u32,
+}
+
+// 1 where t holds, else 0.
+fn bit(t: bool) -> u32
+    ensures is { λ r. ⌜ r ≡ cond t 1 0 ⌝ }
+    ensures small { λ r. ⌜ r ≤ 1 ⌝ }
+{
+    if t { 1 } else { 0 }
+}
+
+// Counts the waters in the shell of a box with no division and no branch, so that the compiler makes code of it for several at once.
+fn count_folded(cell: Cell, b: OctreeBounds, waters: &[f32], m: usize) -> Counted
+    requires { ⌜ (m * 3 ≤ length (now waters)) × (m ≤ maxAtoms) ⌝ }
+    ensures { λ r. ⌜ (r .sure ≡ true → (r .waters ≡ shellFrom cell b (old waters) m 0) × (r .waters ≤ m)) ⌝ }
+{
+    let mut sure = true;
+    let mut n = 0u32;
+    let mut i = 0;
+    while i < m {
+        let seen = fold_in_shell(cell, b, cell::point(waters, i));
+        sure = sure & seen.sure;
+        n = n + bit(seen.inside);
+        i += 1;
+    }
+    Counted {
+        sure: sure,
+        waters: n,
+    }
+}
+
+// The same, a water at a time.
+fn count_each(cell: Cell, b: OctreeBounds, waters: &[f32], m: usize) -> usize
     requires { ⌜ m * 3 ≤ length (now waters) ⌝ }
     ensures is { λ r. ⌜ r ≡ shellFrom cell b (old waters) m 0 ⌝ }
     ensures small { λ r. ⌜ r ≤ m ⌝ }
@@ -81,6 +140,20 @@ pub fn shell_waters(cell: Cell, b: OctreeBounds, waters: &[f32], m: usize) -> us
         i += 1;
     }
     n
+}
+
+// How many of the first m waters are in the shell of a box. Wrapped waters are less than an extent from the center of a box in the cell, but
+// for rounding.
+pub fn shell_waters(cell: Cell, b: OctreeBounds, waters: &[f32], m: usize) -> usize
+    requires { ⌜ (m * 3 ≤ length (now waters)) × (m ≤ maxAtoms) ⌝ }
+    ensures is { λ r. ⌜ r ≡ shellFrom cell b (old waters) m 0 ⌝ }
+    ensures small { λ r. ⌜ r ≤ m ⌝ }
+{
+    let counted = count_folded(cell, b, waters, m);
+    if counted.sure {
+        return counted.waters as usize;
+    }
+    count_each(cell, b, waters, m)
 }
 
 // The sides of a box with its shell.

@@ -1,13 +1,12 @@
 // Floor, and round with halves away from zero. A zero result takes the argument's sign; NaN and infinities stay.
-// From 2^23 on every f32 is whole. Below it the whole part comes by shifts and masks; floor from 0 up to 1, and round near zero, have a short
-// path of comparisons.
+// From 2^23 on every f32 is whole. Below it floor's whole part comes by shifts and masks, and from 0 up to 1 by comparisons; round's comes by a sum.
 use crate::class::from_bits32;
 use crate::class::to_bits32;
+use crate::order::larger;
 ghost use mathlib.Core.Path.{_≡_};
-ghost use mathlib.Core.Bool.{cond, true, false};
-ghost use lib.Ieee.{binary32, lt, ofBits, toBits};
+ghost use mathlib.Core.Bool.{cond};
+ghost use lib.Ieee.{binary32, ofBits, toBits};
 ghost use Rattle.floats.specs.Whole.{floorOf, roundOf};
-ghost use Rattle.floats.specs.Inner.{nearZero};
 
 fn floor_any32(x: f32) -> f32
     ensures { λ r. ⌜ r ≡ floorOf binary32 x ⌝ }
@@ -46,31 +45,6 @@ pub fn floor32(x: f32) -> f32
     floor_any32(x)
 }
 
-// Rounds what is not below zero.
-fn round_size32(x: f32) -> f32
-    requires { ⌜ lt x (ofBits binary32 0) ≡ false ⌝ }
-    ensures { λ r. ⌜ r ≡ roundOf binary32 x ⌝ }
-{
-    if x > 0.0 {
-        if x < 8388608.0 {
-            let twice = std::num::truncating_f32_to_u64(x + x);
-            return ((twice + 1) >> 1) as f32;
-        }
-        return x;
-    }
-    x
-}
-
-// Rounding is odd: a number below zero goes by its opposite.
-fn round_any32(x: f32) -> f32
-    ensures { λ r. ⌜ r ≡ roundOf binary32 x ⌝ }
-{
-    if x < 0.0 {
-        return -round_any32(-x);
-    }
-    round_size32(x)
-}
-
 // 1 where t holds, else 0.
 fn unit(t: bool) -> f32
     ensures { λ r. ⌜ r ≡ cond t (ofBits binary32 0x3f80_0000) (ofBits binary32 0) ⌝ }
@@ -78,30 +52,23 @@ fn unit(t: bool) -> f32
     if t { 1.0 } else { 0.0 }
 }
 
-// Whether x is above -1.5 and below 1.5, so that it rounds to -1, 0 or 1.
-pub fn near_zero32(x: f32) -> bool
-    ensures { λ r. ⌜ r ≡ nearZero x ⌝ }
-{
-    (x < 1.5) & (x > -1.5)
-}
+// From 2^23 on every f32 is whole, and a sum from 2^23 on has no room for a fraction.
+const WHOLE: f32 = 8388608.0;
 
-// Rounds such an x by two comparisons: a branch at a half would be guessed wrong on every other separation of a minimum image. x * 0.0 is
-// a zero with x's sign.
-pub fn round_near_zero32(x: f32) -> f32
-    requires { ⌜ nearZero x ≡ true ⌝ }
-    ensures { λ r. ⌜ r ≡ roundOf binary32 x ⌝ }
-{
-    x * 0.0 - (unit(x < 0.5) - unit(x > -0.5))
-}
-
-// The whole number nearest to x, a half away from zero.
+// The whole number nearest to x, a half away from zero. No branch turns on x's fraction or sign, which in a minimum image would be guessed wrong
+// on every other separation.
 pub fn round32(x: f32) -> f32
     ensures { λ r. ⌜ r ≡ roundOf binary32 x ⌝ }
 {
-    if near_zero32(x) {
-        return round_near_zero32(x);
+    let size = larger(x, -x);
+    if size < WHOLE {
+        let even = size + WHOLE - WHOLE; // the nearest whole number, a tie to the even one
+        let away = even + unit(even + 0.5 <= size); // a tie that went down goes up
+        // x * 0.0 is a zero with x's sign. Less the opposite of the answer it is the answer, and a zero keeps x's sign.
+        let opposite = if 0.0 < x { -away } else { away };
+        return x * 0.0 - opposite;
     }
-    round_any32(x)
+    x
 }
 
 // The bits of the floor of the f32 whose bits are b. Every NaN gives 7FC00000.
