@@ -57,6 +57,7 @@ fn median(mut times: Vec<f64>) -> f64 {
 struct Line<'a> {
     size: &'a str,
     waters: usize,
+    images: &'a str,
     runs: usize,
 }
 
@@ -80,8 +81,8 @@ impl Line<'_> {
     }
 
     fn print(&self, what: &str, rust: f64, ours: f64, runs: usize) {
-        let (size, waters, ratio) = (self.size, self.waters, ours / rust);
-        println!("| {size} | {waters} | {what} | {rust:.3} | {ours:.3} | {ratio:.3} | {runs} |");
+        let (size, waters, images, ratio) = (self.size, self.waters, self.images, ours / rust);
+        println!("| {size} | {waters} | {images} | {what} | {rust:.3} | {ours:.3} | {ratio:.3} | {runs} |");
     }
 
     /// Both sides in turn, and a line of the table with the medians.
@@ -96,16 +97,17 @@ impl Line<'_> {
     }
 }
 
-pub fn bench(seed: u64, runs: usize, most_picks: usize) {
-    println!("| picks | waters | call | Rust, CPU ms | library, CPU ms | library / Rust | runs |");
-    println!("|---|---|---|---|---|---|---|");
+pub fn bench(seed: u64, runs: usize, most_picks: usize, images: usize) {
+    let moved = if images == 0 { "0".to_string() } else { format!("±{images}") };
+    println!("| picks | waters | images | call | Rust, CPU ms | library, CPU ms | library / Rust | runs |");
+    println!("|---|---|---|---|---|---|---|---|");
     for (n, per) in SIZES {
         if n * per > most_picks {
             continue;
         }
         for (waters, side) in WATERS {
-            let line = Line { size: &format!("{n} x {per}"), waters, runs };
-            one(&line, &Frame::new(n, per, waters, side, seed));
+            let line = Line { size: &format!("{n} x {per}"), waters, images: &moved, runs };
+            one(&line, &Frame::new(n, per, waters, side, images, seed));
         }
     }
 }

@@ -2,6 +2,7 @@
 //! every lent table, those that must keep their values too. Stops at the first difference.
 
 mod clusters;
+mod halves;
 mod lent;
 mod whole;
 

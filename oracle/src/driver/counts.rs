@@ -13,9 +13,9 @@ fn oracle_counted(call: &mut dyn FnMut() -> Words) -> Words {
 
 /// Runs the call on so many copies of one atom each, and prints what both sides should answer alike. The side is `rust`, `library`,
 /// or `inside`, the library with one water in place of all, for the scan inside the whole frame.
-pub fn counts(work: Work, copies: usize, waters: usize, side: &str, seed: u64) -> Option<()> {
+pub fn counts(work: Work, copies: usize, waters: usize, side: &str, images: usize, seed: u64) -> Option<()> {
     let (_, width) = WATERS.into_iter().find(|w| w.0 == waters)?;
-    let mut frame = Frame::new(copies, 1, waters, width, seed);
+    let mut frame = Frame::new(copies, 1, waters, width, images, seed);
     if side == "inside" {
         frame = frame.with_one_water();
     }

@@ -6,6 +6,7 @@ use parts::*;
 
 mod damage;
 mod full;
+mod halves;
 mod lists;
 mod parts;
 mod tiny;
@@ -75,9 +76,17 @@ pub fn random(rng: &mut Rng) -> Case {
     around(case, rng)
 }
 
-/// Two to eight copies and one to eight waters in tables with room, so that many frames are answered in a short time. Tree and Report
-/// are called alone in one case of sixteen.
-pub fn small(rng: &mut Rng) -> Case {
+/// Up to eight copies and one to eight waters in tables with room, so that many frames are answered in a short time. One case of three
+/// has separations at halves of the extents. Tree and Report are called alone in one case of sixteen.
+fn small(rng: &mut Rng) -> Case {
+    let case = if rng.one_in(3) { halves::small(rng) } else { scattered(rng) };
+    let mut case = around(case, rng);
+    case.slack = case.slack.map(|s| s.max(0));
+    case.trees_in_frame = !rng.one_in(16);
+    case
+}
+
+fn scattered(rng: &mut Rng) -> Case {
     let cell = cell(rng);
     let n = rng.between(2, 8);
     let w = rng.between(1, 8);
@@ -88,11 +97,7 @@ pub fn small(rng: &mut Rng) -> Case {
     let solutes = copies(n, per, &cell, spread, crowded, spoiled, rng);
     let waters = points(w, &cell, spread, spoiled, rng);
     let indices = indices(per, rng);
-    let case = Case { shape: "small".into(), cell, solutes, per, indices, waters, ..Case::default() };
-    let mut case = around(case, rng);
-    case.slack = case.slack.map(|s| s.max(0));
-    case.trees_in_frame = !rng.one_in(16);
-    case
+    Case { shape: "small".into(), cell, solutes, per, indices, waters, ..Case::default() }
 }
 
 pub fn degenerate(rng: &mut Rng) -> Case {

@@ -35,6 +35,7 @@ struct Options {
     dearest: u64,
     runs: usize,
     most_picks: usize,
+    images: usize,
 }
 
 fn usage(what: &str) -> ! {
@@ -55,6 +56,7 @@ fn options(words: &[String]) -> Options {
         dearest: u64::MAX,
         runs: 5,
         most_picks: reading::PICKS,
+        images: 0,
     };
     let mut words = words.iter();
     while let Some(word) = words.next() {
@@ -71,6 +73,7 @@ fn options(words: &[String]) -> Options {
             "--dearest" => o.dearest = number(),
             "--runs" => o.runs = number().max(1) as usize,
             "--most-picks" => o.most_picks = number() as usize,
+            "--images" => o.images = number() as usize,
             #[cfg(mock)]
             "--fault" => mock::set_fault(number() as u32),
             _ => usage(&format!("no option {word}")),
@@ -80,6 +83,9 @@ fn options(words: &[String]) -> Options {
         if !frames::GROUPS.contains(&group.as_str()) {
             usage(&format!("no group {group}; there are {}", frames::GROUPS.join(", ")));
         }
+    }
+    if o.images > sides::MOST_IMAGES {
+        usage(&format!("--images is at most {}", sides::MOST_IMAGES));
     }
     o
 }
@@ -92,7 +98,7 @@ fn main() {
         Some("bench") => {
             let o = options(&words[1..]);
             every_call();
-            bench::bench(o.seed, o.runs, o.most_picks);
+            bench::bench(o.seed, o.runs, o.most_picks, o.images);
         }
         Some("counts") => {
             every_call();
@@ -117,7 +123,8 @@ fn every_call() {
 
 fn count(words: &[String]) -> Option<()> {
     let [call, copies, waters, side, rest @ ..] = words else { return None };
-    counts::counts(sides::Work::named(call)?, copies.parse().ok()?, waters.parse().ok()?, side, options(rest).seed)
+    let o = options(rest);
+    counts::counts(sides::Work::named(call)?, copies.parse().ok()?, waters.parse().ok()?, side, o.images, o.seed)
 }
 
 /// Runs the case, and at a difference reduces it, prints it and ends the program.

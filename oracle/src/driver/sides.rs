@@ -11,6 +11,9 @@ use std::hint::black_box;
 /// Waters, and the side in angstrom of a cube that so many fill at the density of water.
 pub const WATERS: [(usize, f32); 2] = [(5_000, 53.0), (65_536, 125.0)];
 
+/// So many extents from the cell a coordinate is still within its limit.
+pub const MOST_IMAGES: usize = 8_000;
+
 /// What is run on a side, and its name in the tables.
 #[derive(Clone, Copy, PartialEq)]
 pub enum Work {
@@ -57,8 +60,9 @@ pub struct Frame {
 }
 
 impl Frame {
-    /// Copies are blobs of 3 angstrom with their bases anywhere in the cell, as in a well mixed box.
-    pub fn new(copies: usize, per: usize, waters: usize, side: f32, seed: u64) -> Frame {
+    /// Copies are blobs of 3 angstrom with their bases anywhere in the cell, as in a well mixed box; then each copy as one, and each
+    /// water, is moved by a whole number of extents on each axis, at most `images` either way.
+    pub fn new(copies: usize, per: usize, waters: usize, side: f32, images: usize, seed: u64) -> Frame {
         let mut rng = Rng::new(seed, copies as u64, (per * 100_000 + waters) as u64);
         let mut solutes = Vec::new();
         for _ in 0..copies {
@@ -68,7 +72,16 @@ impl Frame {
                 solutes.extend(base.map(|x| (x + rng.float(-width, width)).to_bits()));
             }
         }
-        let waters = (0..3 * waters).map(|_| rng.float(0.0, side).to_bits()).collect();
+        let mut waters: Vec<u32> = (0..3 * waters).map(|_| rng.float(0.0, side).to_bits()).collect();
+        if images > 0 {
+            // The numbers above come first, so that it is the same frame, moved.
+            for molecule in solutes.chunks_mut(3 * per).chain(waters.chunks_mut(3)) {
+                let cells = [(); 3].map(|_| rng.below(2 * images + 1) as f32 - images as f32);
+                for (at, x) in molecule.iter_mut().enumerate() {
+                    *x = (f32::from_bits(*x) + cells[at % 3] * side).to_bits();
+                }
+            }
+        }
         Frame { cell: [0.0, 0.0, 0.0, side, side, side], copies, per, solutes, waters }
     }
 

@@ -31,6 +31,9 @@ pub struct Stats {
     /// Whole frames that were neither blank nor refused, and these by group.
     pub whole: u64,
     pub whole_by_group: BTreeMap<&'static str, u64>,
+    /// Separations near an odd multiple of half an extent in these: Row's, Centers', Dispersion's and Report's.
+    pub halves: [u64; 4],
+    pub with_halves: u64,
     pub frames: u64,
     pub with_contacts: u64,
     pub with_split: u64,
@@ -51,6 +54,13 @@ impl Stats {
         *self.answers.entry(call).or_default().entry(answer).or_default() += 1;
     }
 
+    pub fn add_halves(&mut self, counts: [u64; 4]) {
+        self.with_halves += (counts != [0; 4]) as u64;
+        for (sum, n) in self.halves.iter_mut().zip(counts) {
+            *sum += n;
+        }
+    }
+
     pub fn print(&self) {
         println!("frames and tables by group:");
         for (group, n) in &self.groups {
@@ -67,6 +77,13 @@ impl Stats {
         }
         let each: Vec<String> = self.whole_by_group.iter().map(|(group, n)| format!("{group}: {n}")).collect();
         println!("whole frames neither blank nor refused: {}   {}", self.whole, each.join("  "));
+        let [row, centers, dispersion, report] = self.halves;
+        println!(
+            "separations within 4 ulps of an odd multiple of half an extent: {}, in {} of these   \
+             row: {row}  centers: {centers}  dispersion: {dispersion}  report: {report}",
+            self.halves.iter().sum::<u64>(),
+            self.with_halves
+        );
         println!("table entries compared: {}", self.entries);
         println!(
             "scans: {} with contacts ({} contacts)",

@@ -3,13 +3,14 @@
 
 #![allow(clippy::missing_safety_doc, clippy::too_many_arguments)]
 
+mod images;
 mod whole;
 
 use reading::{Answer, Picked};
 use std::sync::atomic::{AtomicU32, Ordering};
 
 /// The mistakes, by number less one; `oracle/selftest` tries each.
-pub const FAULTS: [&str; 31] = [
+pub const FAULTS: [&str; 36] = [
     "select: picks are sorted",
     "select: 4 is tested for whole atoms, not coordinate by coordinate",
     "select: 5 counts vanished copies too",
@@ -41,6 +42,11 @@ pub const FAULTS: [&str; 31] = [
     "frame: at 13 the clusters are not filled",
     "frame: a word past the answers is written",
     "frame: the process ends at 13",
+    "row: the minimum image rounds halves to even",
+    "centers: the minimum image rounds halves to even",
+    "centers: half an extent stays as it is",
+    "dispersion: the minimum image rounds the number below a half up",
+    "report: the minimum image rounds the number below a half up",
 ];
 
 static FAULT: AtomicU32 = AtomicU32::new(0);
@@ -135,6 +141,9 @@ pub unsafe extern "C" fn baithrum_row(
     let before = table.to_vec();
     let mut touch = |i: usize, j: usize| {
         let p = picked.as_ref().ok().unwrap();
+        if fault("row: the minimum image rounds halves to even") {
+            return images::touch(p, i, j, f32::round_ties_even);
+        }
         let near = p.touch(i, j);
         if near && fault("row: the cutoff itself does not touch") {
             let d2 = |a, b| p.cell.min_image(b - a).magnitude_squared();
@@ -238,6 +247,12 @@ pub unsafe extern "C" fn baithrum_centers(
                 mol.iter().for_each(|&m| sum += p.cell.wrap(m));
                 c = p.cell.wrap(sum / mol.len() as f32);
             }
+            if fault("centers: the minimum image rounds halves to even") {
+                c = images::center(p, mol, f32::round_ties_even);
+            }
+            if fault("centers: half an extent stays as it is") {
+                c = images::center(p, mol, |q| if q.abs() == 0.5 { 0.0 } else { q.round() });
+            }
             if fault("centers: a second wrap") {
                 c = p.cell.wrap(c);
             }
@@ -262,6 +277,9 @@ pub unsafe extern "C" fn baithrum_dispersion(
     let mut answer = reading::dispersion(&picked);
     if fault("dispersion: one unit in the last place") && starts_len > 3 {
         answer = answer.map(|[bits]| [if bits > 0 && bits < 0x3F80_0000 { bits - 1 } else { bits }]);
+    }
+    if fault("dispersion: the minimum image rounds the number below a half up") && starts_len > 2 {
+        answer = picked.as_ref().map(|p| [images::dispersion(p, images::half_added).to_bits()]).map_err(|e| *e);
     }
     if fault("dispersion: 15 before 4") && answer == Err(4) {
         if let Err(15) = Picked::read(cell, &[], &[], &[0], &[]) {

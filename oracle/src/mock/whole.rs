@@ -1,6 +1,6 @@
 //! Tree, Report and the whole frame of the mock.
 
-use super::{fault, give, given, lent};
+use super::{fault, give, given, images, lent};
 use reading::{Answer, FrameInput, FrameWork, Picked, TreeTables, Worked};
 
 /// Tree (`leaves` is None) and Report.
@@ -113,6 +113,14 @@ pub unsafe extern "C" fn baithrum_report(
         } else if fault("report: dry leaves are those with a dry shell") {
             if let (Ok(a), Some(table)) = (&mut answer, &t.leaves) {
                 a[3] = table.chunks(8).take(a[2] as usize).filter(|leaf| leaf[4] == 0).count() as u32;
+            }
+        } else if fault("report: the minimum image rounds the number below a half up") {
+            if let (Ok(a), Some(table)) = (&answer, &mut t.leaves) {
+                let cell = reading::simbox([lx, ly, lz, hx, hy, hz]);
+                for leaf in table.chunks_mut(8).take(a[2] as usize) {
+                    let sides = &t.boxes[6 * leaf[0] as usize..];
+                    leaf[4] = images::shell(&cell, sides, given(waters, waters_len), images::half_added);
+                }
             }
         }
         give(answer, lent(answers, answers_len))

@@ -1,6 +1,7 @@
 //! The whole frame, and the second reading against the unchanged original.
 
 use super::clusters::Touches;
+use super::halves::near_halves;
 use super::lent::{Pair, settle};
 use super::{Checked, Checker, WHOLE_ORIGINAL};
 use crate::case::Lent;
@@ -97,6 +98,9 @@ impl Checker<'_> {
             self.stats.count(Call::Frame, BLANK);
         } else if expected == 0 {
             self.stats.whole += 1;
+            if let Some(w) = some {
+                self.stats.add_halves(near_halves(w, &case.waters));
+            }
             if let (true, Some(w)) = (case.trees_in_frame, some) {
                 self.seen(&w.worked, waters);
             }

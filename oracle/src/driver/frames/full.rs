@@ -1,15 +1,17 @@
 //! Full-size frames: 4,096 copies, 65,536 picks, 65,536 waters, and one more of each. Cheap ones first.
 
-use super::around;
 use super::parts::{Spread, copies, cube, point, points};
+use super::{around, halves};
 use crate::case::{Case, Lent};
 use crate::rng::Rng;
 
 /// What a round of the group holds, with about how many seconds a case takes.
-pub const FULL: [(&str, u64); 14] = [
+pub const FULL: [(&str, u64); 16] = [
     ("4,097 copies", 1),
     ("65,792 picks", 1),
     ("4,096 copies uniform, 5,000 waters", 3),
+    ("4,096 copies at halves of extents, 3,000 waters", 3),
+    ("512 copies of 8 picks at halves of extents, 3,000 waters", 1),
     ("4,096 copies in one place, 65,536 waters", 4),
     ("a line of 4,096 copies, rows rising", 4),
     ("a line of 4,096 copies, rows falling", 4),
@@ -45,24 +47,26 @@ pub fn full(number: u64, rng: &mut Rng) -> Option<Case> {
             c.solutes = plain(4_096, 1, rng);
             c.waters = waters(5_000, rng);
         }
-        3 => {
+        3 => c = Case { shape: c.shape, ..halves::frame(4_096, 1, 3_000, rng) },
+        4 => c = Case { shape: c.shape, ..halves::frame(512, 8, 3_000, rng) },
+        5 => {
             c.solutes = [80.5, 3.25, 159.9].repeat(4_096);
             c.waters = waters(65_536, rng);
         }
-        4 | 5 => {
+        6 | 7 => {
             // In the original's scan each row joins the next copy: chains without rank get long.
             c.cell = [0.0, 0.0, 0.0, 60_000.0, 30.0, 30.0];
             for i in 0..4_096 {
-                let x = if at == 4 { i } else { 4_095 - i };
+                let x = if at == 6 { i } else { 4_095 - i };
                 c.solutes.extend([4.0 * x as f32, 1.0, 29.0]);
             }
             c.waters = points(2_000, &c.cell, Spread::Inside, 0, rng);
         }
-        6 => {
+        8 => {
             c.solutes = copies(4_096, 1, &cell, Spread::Mixed, 3, 0, rng);
             c.waters = waters(65_536, rng);
         }
-        7 => {
+        9 => {
             c.cell = cube(-65_536.0, 65_536.0);
             for _ in 0..2_048 {
                 let p = point(&c.cell, Spread::Inside, rng);
@@ -71,30 +75,30 @@ pub fn full(number: u64, rng: &mut Rng) -> Option<Case> {
             }
             c.waters = points(3_000, &c.cell, Spread::Inside, 0, rng);
         }
-        8 => {
+        10 => {
             c.per = 4;
             c.cell = cube(-3.0, 3.0);
             c.solutes = copies(256, 4, &c.cell, Spread::Around, 2, 0, rng);
             c.indices = (0..256).map(|i| i % 4).collect();
             c.waters = points(1_000, &c.cell, Spread::Mixed, 50, rng);
         }
-        9 => {
+        11 => {
             c.per = 16;
             c.solutes = plain(512, 16, rng);
             c.waters = waters(65_536, rng);
         }
-        10 => {
+        12 => {
             c.per = 16;
             c.cell = cube(0.0, 10.0);
             c.solutes = copies(4_096, 16, &c.cell, Spread::Inside, 9, 0, rng);
             c.waters = points(5_000, &c.cell, Spread::Inside, 0, rng);
         }
-        11 => {
+        13 => {
             c.per = 4;
             c.solutes = plain(4_096, 4, rng);
             c.waters = waters(65_536, rng);
         }
-        12 => {
+        14 => {
             c.per = 65_536;
             c.solutes = points(65_536, &cell, Spread::Mixed, 0, rng);
             c.waters = waters(65_536, rng);
@@ -108,12 +112,12 @@ pub fn full(number: u64, rng: &mut Rng) -> Option<Case> {
     let mut c = around(c, rng);
     let n = c.atoms() / c.per;
     c.rows = (0..n).collect();
-    if at == 5 {
+    if at == 7 {
         c.rows.reverse();
     }
     // Tables of just the right size or longer; the small ones have had the short tables.
     c.slack = c.slack.map(|s| s.max(0));
-    if at == 6 {
+    if at == 8 {
         let node_tables = [(Lent::Records, -8), (Lent::Boxes, -6), (Lent::Leaves, -8)];
         let (short, by) = node_tables[number as usize / FULL.len() % 3];
         c.slack[short as usize] = by;
