@@ -6,8 +6,8 @@
 // A program uses what it needs.
 #![allow(dead_code)]
 
-/// The version of include/baithrum.h that this follows, 0.1.0.
-pub const VERSION: u32 = 100;
+/// The version of include/baithrum.h that this follows, 0.1.1.
+pub const VERSION: u32 = 101;
 
 // What a call results in. A number keeps its meaning in every call.
 pub const DONE: u32 = 0;
