@@ -55,7 +55,7 @@ fn wrap_axis(p: f32, low: f32, e: f32) -> f32
     p - e * numbers::whole::floor32((p - low) / e)
 }
 
-// A number that was found without a division, and whether it is sure to be the one asked for.
+// A number that was found without a division, and whether it is sure to be the one asked for; if not, it says nothing.
 pub struct Folded {
     pub sure: bool,
     pub value: f32,

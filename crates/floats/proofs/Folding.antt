@@ -106,49 +106,35 @@ half-gap f x y Fx Fy fx fy h =
 
 -- ---- the quotient below a half: at most the largest value below a half, (2 ^ prec - 1) / 2 ^ (prec + 1)
 abbrev almost : Format → Float
-almost binary32 = fin false 16777215 (negsuc 24)
-almost binary64 = fin false 9007199254740991 (negsuc 53)
+almost f = fin false (2 ^ prec f - 1) (negsuc (prec f))
 
-abbrev almost-num : Format → ℕ
-almost-num binary32 = 16777215
-almost-num binary64 = 9007199254740991
+almost-fits : (f : Format) → T (fits f (almost f))
+unfolding fits
+almost-fits binary32 = tt
+almost-fits binary64 = tt
 
-abbrev almost-den : Format → ℕ
-almost-den binary32 = 33554432
-almost-den binary64 = 18014398509481984
+-- over whole numbers, P a power of two: a part in P below c / 2 is (P - 1) / (2 * P) of c, and that is below a half
+almost-ge : (P a c : ℕ) → 0 < P → a * 2 * P + c ≤ c * P → a * (2 * P) ≤ (P - 1) * 1 * c
+almost-ge zero a c Q h = absurd (omega arith)
+almost-ge (suc p) a c Q h = let e : suc p - 1 ≡ p = omega arith in rw e (omega arith)
 
-almost-is : (f : Format) → round f false (almost-num f) (almost-den f) ≡ almost f
-unfolding round
-almost-is binary32 = refl
-almost-is binary64 = refl
-
-almost-pos : (f : Format) → 0 < almost-den f
-almost-pos binary32 = zero-lt-suc 33554431
-almost-pos binary64 = zero-lt-suc 18014398509481983
-
-almost-ge : (f : Format) (a c : ℕ) → a * 2 * 2 ^ prec f + c ≤ c * 2 ^ prec f → a * almost-den f ≤ almost-num f * c
-almost-ge binary32 a c g = omega arith
-almost-ge binary64 a c g = omega arith
+almost-lt : (P a c : ℕ) → 0 < P → 0 < c → a * (2 * P) + 0 ≤ (P - 1) * 1 * c + 0 → a * 2 < c
+almost-lt zero a c Q C h = absurd (omega arith)
+almost-lt (suc p) a c Q C h =
+    let e : suc p - 1 ≡ p = omega arith in
+    let l : a * (2 * suc p) + 0 ≤ p * 1 * c + 0 = rw e at h in
+    lt-of-mul-lt-mul-right (suc p) (omega arith)
 
 below-half : (f : Format) (z : Float) → T (plain z) → T (le z (almost f)) → T (finite z) × (num z * 2 < den z)
 unfolding le lt
 below-half f nan p h = absurd p
 below-half f (inf true) p h = absurd p
-below-half binary32 (inf false) p h = absurd h
-below-half binary64 (inf false) p h = absurd h
+below-half f (inf false) p h = absurd h
 below-half f (fin true m e) p h = absurd p
-below-half binary32 (fin false m e) p h =
-    let l : m * up e * 2 ^ 25 + 0 ≤ 16777215 * 1 * down e + 0 = of-test false (m * up e * 2 ^ 25) false (16777215 * 1 * down e) h in
-    (tt, tidy (m * up e) (down e) (down-pos e) l)
-  where
-    tidy : (a c : ℕ) → 0 < c → a * 2 ^ 25 + 0 ≤ 16777215 * 1 * c + 0 → a * 2 < c
-    tidy a c C l = omega arith
-below-half binary64 (fin false m e) p h =
-    let l : m * up e * 2 ^ 54 + 0 ≤ 9007199254740991 * 1 * down e + 0 = of-test false (m * up e * 2 ^ 54) false (9007199254740991 * 1 * down e) h in
-    (tt, tidy (m * up e) (down e) (down-pos e) l)
-  where
-    tidy : (a c : ℕ) → 0 < c → a * 2 ^ 54 + 0 ≤ 9007199254740991 * 1 * c + 0 → a * 2 < c
-    tidy a c C l = omega arith
+below-half f (fin false m e) p h =
+    let P = 2 ^ prec f in
+    let l : m * up e * 2 ^ suc (prec f) + 0 ≤ (P - 1) * 1 * down e + 0 = of-test false (m * up e * 2 ^ suc (prec f)) false ((P - 1) * 1 * down e) h in
+    (tt, almost-lt P (m * up e) (down e) (pow-pos (prec f)) (down-pos e) (subst (λ (Q : ℕ). m * up e * Q + 0 ≤ (P - 1) * 1 * down e + 0) (pow-succ' 2 (prec f)) l))
 
 -- ---- from a half up to one
 abbrev half : Float
@@ -221,9 +207,12 @@ module _ (f : Format) (s : Bool) (m : ℕ) (k : ℤ) (n : ℕ) (j : ℤ) (N : 0 
       → roundOf f (div f (fin s m k) (fin false n j)) ≡ fin s 0 (pos 0)
   short-quotient Fd Fe h =
       let g = half-gap f (fin s m k) (fin false n j) Fd Fe tt tt h in
-      let l : T (le z (almost f)) = subst (λ (w : Float). T (le z w)) (almost-is f) (round-mono f a c (almost-num f) (almost-den f) C (almost-pos f) (almost-ge f a c g)) in
-      let b = below-half f z (plain-round f a c) l in
-      quotient 0 (b .0) (half-none (num z) (den z) (b .1)) ∙ round-none f s 1 (zero-lt-suc 0)
+      let P = 2 ^ prec f in
+      let b : a * 2 ^ suc (prec f) ≤ (P - 1) * 1 * c = subst (λ (Q : ℕ). a * Q ≤ (P - 1) * 1 * c) (sym (pow-succ' 2 (prec f))) (almost-ge P a c (pow-pos (prec f)) g) in
+      let l : T (le z (almost f)) =
+      subst (λ (w : Float). T (le z w)) (own-round f false (P - 1) (negsuc (prec f)) (almost-fits f)) (round-mono f a c ((P - 1) * 1) (2 ^ suc (prec f)) C (pow-pos (suc (prec f))) b) in
+      let h = below-half f z (plain-round f a c) l in
+      quotient 0 (h .0) (half-none (num z) (den z) (h .1)) ∙ round-none f s 1 (zero-lt-suc 0)
 
   long-quotient : c ≤ m * up k * 2 * down j → a < c → roundOf f (div f (fin s m k) (fin false n j)) ≡ fin s 1 (pos 0)
   long-quotient g h =

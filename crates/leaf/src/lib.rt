@@ -143,7 +143,7 @@ fn count_each(cell: Cell, b: OctreeBounds, waters: &[f32], m: usize) -> usize
 }
 
 // How many of the first m waters are in the shell of a box. Wrapped waters are less than an extent from the center of a box in the cell, but
-// for rounding.
+// for rounding, so that the second count is seldom made.
 pub fn shell_waters(cell: Cell, b: OctreeBounds, waters: &[f32], m: usize) -> usize
     requires { ⌜ (m * 3 ≤ length (now waters)) × (m ≤ maxAtoms) ⌝ }
     ensures is { λ r. ⌜ r ≡ shellFrom cell b (old waters) m 0 ⌝ }
