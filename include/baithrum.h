@@ -9,7 +9,8 @@
  *
  * Numbers. Lengths are in angstrom. Coordinates are f32, x y z in turn. A water is one point, its oxygen: a list of all its atoms counts as
  * three waters. A cell is rectangular, six f32, low x y z and high x y z. Two copies touch if a picked atom of one and a picked atom of the
- * other are at most 4.2 apart (at 4.2 they touch), by the nearest image.
+ * other are at most the cutoff apart (at it they touch), by the nearest image: their squared distance is at most cutoff x cutoff, one f32
+ * product. The cutoff is the caller's, above 0 and at most 16. The shell of the leaf report is another length, 4.2 with every cutoff.
  *
  * Tables. A table is a pointer and its number of entries (not bytes). Entries past what an answer needs keep their values. A refusal
  * changes no table; the one exception is 13. Of a float table (centers, boxes) the promise is up to a NaN's payload: an entry that held a
@@ -43,10 +44,10 @@
 extern "C" {
 #endif
 
-/* The version of this header, 0.1.1: 10,000 times the first part, 100 times the second, and the third. The third grows where a caller sees
+/* The version of this header, 0.2.0: 10,000 times the first part, 100 times the second, and the third. The third grows where a caller sees
  * no change, the second with every addition, the first where a name, a number or a meaning changes; while the first is 0, that may come
  * with the second. The archive does not carry it: take both from one tree. */
-#define BAITHRUM_VERSION 101
+#define BAITHRUM_VERSION 200
 
 /* What a call results in. A number keeps its meaning in every call. */
 enum {
@@ -65,7 +66,9 @@ enum {
     BAITHRUM_ROW_LEFT = 12,
     BAITHRUM_NODES = 13,
     BAITHRUM_BLOCK = 14,
-    BAITHRUM_CELL = 15
+    BAITHRUM_CELL = 15,
+    BAITHRUM_REACH = 16,
+    BAITHRUM_OTHER_CUTOFF = 17
 };
 
 /* The sentence for a result. */
@@ -103,24 +106,32 @@ static inline const char *baithrum_sentence(uint32_t number) {
         return "the block is not one that the program `frame` reads";
     case BAITHRUM_CELL:
         return "the cell is not valid: an extent is not finite or not above 2^-23 angstrom";
+    case BAITHRUM_REACH:
+        return "the cutoff is not finite, not above 0 or above 16 angstrom";
+    case BAITHRUM_OTHER_CUTOFF:
+        return "the row's cutoff differs in bits from the table's";
     default:
         return "no result of this library";
     }
 }
 
 /* The limits: solute atoms, and waters; indices; kept copies; picks; a finite bound of the cell and a finite coordinate, in magnitude, in
- * angstrom. */
+ * angstrom; the cutoff, in angstrom. */
 #define BAITHRUM_MAX_ATOMS 65536
 #define BAITHRUM_MAX_INDICES 256
 #define BAITHRUM_MAX_COPIES 4096
 #define BAITHRUM_MAX_PICKS 65536
 #define BAITHRUM_MAX_BOUND 65536.0f
 #define BAITHRUM_MAX_COORDINATE 1048576.0f
+#define BAITHRUM_MAX_REACH 16.0f
+
+/* The original's cutoff, in angstrom, which the program `frame` uses. */
+#define BAITHRUM_CUTOFF 4.2f
 
 /* Entries that n copies need: words of starts, words of the cluster table, floats of centers. center_order needs n, picks one for each
  * pick, water_order one for each finite water. */
 #define BAITHRUM_STARTS(n) ((size_t)(n) + 1)
-#define BAITHRUM_CLUSTER_WORDS(n) (2 + 3 * (size_t)(n))
+#define BAITHRUM_CLUSTER_WORDS(n) (3 + 3 * (size_t)(n))
 #define BAITHRUM_CENTER_FLOATS(n) (3 * (size_t)(n))
 
 /* Node records that are never refused 13, for n copies and so many waters (docs/MANUAL.md, 'Node records': most frames need far fewer). */
@@ -161,10 +172,10 @@ enum {
     BAITHRUM_FRAME_DRY = 10
 };
 
-/* The words of a cluster table of n copies: n, the contacts, then n parents, n degrees and n marks. */
-enum { BAITHRUM_CLUSTER_COPIES = 0, BAITHRUM_CLUSTER_CONTACTS = 1, BAITHRUM_CLUSTER_PARENTS = 2 };
-#define BAITHRUM_CLUSTER_DEGREES(n) (2 + (size_t)(n))
-#define BAITHRUM_CLUSTER_MARKS(n) (2 + 2 * (size_t)(n))
+/* The words of a cluster table of n copies: n, the contacts, the cutoff's bits, then n parents, n degrees and n marks. */
+enum { BAITHRUM_CLUSTER_COPIES = 0, BAITHRUM_CLUSTER_CONTACTS = 1, BAITHRUM_CLUSTER_CUTOFF = 2, BAITHRUM_CLUSTER_PARENTS = 3 };
+#define BAITHRUM_CLUSTER_DEGREES(n) (3 + (size_t)(n))
+#define BAITHRUM_CLUSTER_MARKS(n) (3 + 2 * (size_t)(n))
 
 /* The words of a node record; the eighth is 0. */
 enum {
@@ -193,6 +204,13 @@ static inline float baithrum_float(uint32_t bits) {
     float x;
     memcpy(&x, &bits, sizeof x);
     return x;
+}
+
+/* The bits of a float, as a table holds a cutoff. */
+static inline uint32_t baithrum_bits(float x) {
+    uint32_t bits;
+    memcpy(&bits, &x, sizeof bits);
+    return bits;
 }
 
 /* A pointer for a list or a table of so many entries: p, and with 0 entries one that is not null, whatever p is. For callers whose empty
@@ -232,24 +250,26 @@ uint32_t baithrum_select(const float *solutes, size_t solutes_len, size_t per, c
  * unless starts begins at 0, rises strictly, has n + 1 words with n at most 4,096 and ends at picks_len, at most 65,536, and each pick names
  * a finite atom. */
 
-/* Open: a cluster table of n copies with no contact.
- * Writes 2 + 3n words: n, contacts 0, then n parents (each copy its own), n degrees 0, n marks 0.
- * Refusals: 5, 7 (table shorter than 2 + 3n). */
-uint32_t baithrum_open(uint32_t *table, size_t table_len, size_t n);
+/* Open: a cluster table of n copies with no contact, for a scan at this cutoff.
+ * Writes 3 + 3n words: n, contacts 0, the cutoff's bits, then n parents (each copy its own), n degrees 0, n marks 0.
+ * Refusals: 5, 16, 7 (table shorter than 3 + 3n). */
+uint32_t baithrum_open(uint32_t *table, size_t table_len, size_t n, float cutoff);
 
-/* Row: scans row i, which tests copy i against each later copy. Rows may come in any order, each once.
- * Writes the table: each touch joins the root of j under the root of i, shortens chains, and raises both degrees and the
+/* Row: scans row i, which tests copy i against each later copy. Rows may come in any order, each once, with the cutoff of the table.
+ * Writes the table: each touch at the cutoff joins the root of j under the root of i, shortens chains, and raises both degrees and the
  * contacts; then mark i becomes 1.
- * Refusals: 1, 2, 3, 4, 15, 8, 7 (table shorter than 2 + 3n), 9 (n differs from the pick lists', a parent is not below n, a copy does
- * not reach a root in n steps, a degree is not below n, a mark is above 1, or contacts exceed n(n-1)/2), 10, 11. */
-uint32_t baithrum_row(float lx, float ly, float lz, float hx, float hy, float hz, const float *solutes, size_t solutes_len,
+ * Refusals: 1, 2, 3, 4, 15, 8, 16, 7 (table shorter than 3 + 3n), 9 (n differs from the pick lists', a parent is not below n, a copy does
+ * not reach a root in n steps, a degree is not below n, a mark is above 1, or contacts exceed n(n-1)/2; the cutoff's word may be any), 17
+ * (the cutoff's bits are not that word), 10, 11. */
+uint32_t baithrum_row(float lx, float ly, float lz, float hx, float hy, float hz, float cutoff, const float *solutes, size_t solutes_len,
                       const uint32_t *starts, size_t starts_len, const uint32_t *picks, size_t picks_len,
                       uint32_t *table, size_t table_len, size_t i);
 
-/* Close: the fractions of a scanned table, which it reads alone, with the table's own n. It writes no table but the answers.
+/* Close: the fractions of a scanned table, which it reads alone, with the table's own n; the cutoff's word may be any. It writes no table
+ * but the answers.
  * Answers: largest fraction ((largest cluster - 1) / (n - 1)), contacted fraction (copies with a contact / n), pair fraction (contacts /
  * (n(n-1)/2)), each one f32 division; zeros below two copies.
- * Refusals: 7 (table shorter than two words or than 2 + 3n), 9 (as in Row, and n over 4,096), 12. */
+ * Refusals: 7 (table shorter than three words or than 3 + 3n), 9 (as in Row, and n over 4,096), 12. */
 uint32_t baithrum_close(const uint32_t *table, size_t table_len, uint32_t *answers, size_t answers_len);
 
 /* Centers: the center of each copy by its picks, wrapped (in the cell but for rounding).
@@ -294,11 +314,11 @@ uint32_t baithrum_report(float lx, float ly, float lz, float hx, float hy, float
 /* The whole frame: Select, Open, the rows in rising order, Close, Dispersion and Report, with their tables; clusters is the cluster table.
  * Answers, eleven words: blank, copies, picks, largest, contacted and pair fraction, dispersion, nodes, greatest depth, reported leaves,
  * dry leaves.
- * A frame is blank if the cell is not valid, a coordinate list is empty, no copy is kept or no water is finite. It is no refusal: the
- * result is 0, the first answer is 1, the others are 0, and no other table is changed. Otherwise the first answer is 0.
- * Refusals: 1, 2, 3, 4, then blank, 5, 6, 7 (starts, picks, clusters or an order list too short), 13. At 13 the pick lists and clusters are
- * filled and the rest is as Report leaves it. */
-uint32_t baithrum_frame(float lx, float ly, float lz, float hx, float hy, float hz, const float *solutes, size_t solutes_len,
+ * A frame is blank if the cell is not valid, a coordinate list is empty, no copy is kept or no water is finite, with any cutoff. It is no
+ * refusal: the result is 0, the first answer is 1, the others are 0, and no other table is changed. Otherwise the first answer is 0.
+ * Refusals: 1, 2, 3, 4, then blank, 5, 6, 16, 7 (starts, picks, clusters or an order list too short), 13. At 13 the pick lists and clusters
+ * are filled and the rest is as Report leaves it. */
+uint32_t baithrum_frame(float lx, float ly, float lz, float hx, float hy, float hz, float cutoff, const float *solutes, size_t solutes_len,
                         size_t per, const uint32_t *indices, size_t indices_len, const float *waters, size_t waters_len,
                         uint32_t *starts, size_t starts_len, uint32_t *picks, size_t picks_len,
                         uint32_t *clusters, size_t clusters_len, uint32_t *center_order, size_t center_order_len,

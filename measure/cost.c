@@ -1,4 +1,5 @@
-/* How long the calls take on frames at the limits, ordinary and slow ones: prints two markdown tables, processor time in seconds, one run each. */
+/* How long the calls take on frames at the limits, ordinary and slow ones: prints two markdown tables, processor time in seconds, one run each.
+ * The argument, if there is one, is the cutoff. */
 #include <time.h>
 
 #include "frames.h"
@@ -35,13 +36,15 @@ static void line(const char *copies) {
     fflush(stdout);
 }
 
-/* Copies that are near and do not touch: each with all its atoms in one of four places, 5.7 apart and never over 4 on an axis. */
+/* Copies that are near and do not touch: each with all its atoms in one of four places, 5.7 apart and never over 4 on an axis;
+ * at another cutoff than 4.2 in proportion. */
 static void crowd(size_t n, size_t per) {
     static const float places[4][3] = {{0, 0, 0}, {4, 4, 0}, {4, 0, 4}, {0, 4, 4}};
+    float by = cutoff / BAITHRUM_CUTOFF;
     set_copies(n, per);
     for (size_t i = 0; i < t.s; i++) {
         const float *at = places[i / per % 4];
-        put(t.solutes, i, 60 + at[0], 60 + at[1], 60 + at[2]);
+        put(t.solutes, i, 60 + by * at[0], 60 + by * at[1], 60 + by * at[2]);
     }
 }
 
@@ -110,7 +113,10 @@ static void short_calls(void) {
     short_line("Centers", "the same, moved by up to 20 cells", timed("centers", call_centers, BAITHRUM_DONE));
 }
 
-int main(void) {
+int main(int count, char **words) {
+    if (count > 1)
+        cutoff = strtof(words[1], NULL); /* 0, which Open refuses, where it is no number */
+    printf("cutoff %g\n\n", cutoff);
     frames();
     short_calls();
     return 0;

@@ -25,6 +25,9 @@ static struct {
     float centers[3 * COPIES], boxes[6 * NODES];
 } t;
 
+/* The cutoff of every call that takes one. */
+static float cutoff = BAITHRUM_CUTOFF;
+
 /* ---- the calls on it */
 
 #define CELL t.cell[0], t.cell[1], t.cell[2], t.cell[3], t.cell[4], t.cell[5]
@@ -40,11 +43,11 @@ static inline uint32_t call_select(void) {
 }
 
 static inline uint32_t call_open(void) {
-    return baithrum_open(t.clusters, TABLE, t.n);
+    return baithrum_open(t.clusters, TABLE, t.n, cutoff);
 }
 
 static inline uint32_t call_row(void) {
-    return baithrum_row(CELL, SOLUTES, LISTS, t.clusters, TABLE, t.row);
+    return baithrum_row(CELL, cutoff, SOLUTES, LISTS, t.clusters, TABLE, t.row);
 }
 
 static inline uint32_t call_close(void) {
@@ -68,7 +71,7 @@ static inline uint32_t call_report(void) {
 }
 
 static inline uint32_t call_frame(void) {
-    return baithrum_frame(CELL, SOLUTES, t.per, t.indices, t.k, WATERS, t.starts, COPIES + 1, t.picks, PICKS,
+    return baithrum_frame(CELL, cutoff, SOLUTES, t.per, t.indices, t.k, WATERS, t.starts, COPIES + 1, t.picks, PICKS,
                           t.clusters, TABLE, ORDERS, NODE_TABLES, t.leaves, 8 * t.room, ANSWERS);
 }
 

@@ -34,7 +34,7 @@ static unsigned dry_leaves(void) {
 static float largest(void) {
     cube(16);
     put(t.solutes, 0, 0, 0, 0);
-    put(t.solutes, 1, 4.2f, 0, 0);
+    put(t.solutes, 1, cutoff, 0, 0);
     t.w = 1;
     put(t.waters, 0, 1, 1, 1);
     judge();

@@ -1,6 +1,7 @@
 /* Reads a block from standard input (docs/RULES.md, 'Program `frame`'), selects, scans its rows and prints the three fractions.
- * Built by examples/c/build. */
+ * The cutoff, in angstrom, is its argument, or 4.2 where it has none. Built by examples/c/build. */
 #include <stdio.h>
+#include <stdlib.h>
 
 #include "baithrum.h"
 
@@ -27,7 +28,15 @@ static int refused(const char *call, uint32_t number) {
     return 1;
 }
 
-int main(void) {
+int main(int count, char **words) {
+    float cutoff = BAITHRUM_CUTOFF;
+    char *end = "";
+    if (count > 1)
+        cutoff = strtof(words[1], &end);
+    if (*end != '\0') {
+        fprintf(stderr, "usage: scan [CUTOFF] < BLOCK\n");
+        return 2;
+    }
     size_t size = fread(block, 1, sizeof block, stdin);
     if (size < HEAD || size > BLOCK || word(0) != size - 4 || block[4] != 1 || block[5] != 0)
         return refused("block", BAITHRUM_BLOCK);
@@ -48,11 +57,11 @@ int main(void) {
     if (number != 0)
         return refused("select", number);
     size_t n = kept[BAITHRUM_SELECT_COPIES], p = kept[BAITHRUM_SELECT_PICKS];
-    number = baithrum_open(table, TABLE, n);
+    number = baithrum_open(table, TABLE, n, cutoff);
     if (number != 0)
         return refused("open", number);
     for (size_t i = 0; i < n; i++) {
-        number = baithrum_row(c[0], c[1], c[2], c[3], c[4], c[5], solutes, 3 * s, starts, BAITHRUM_STARTS(n), picks, p,
+        number = baithrum_row(c[0], c[1], c[2], c[3], c[4], c[5], cutoff, solutes, 3 * s, starts, BAITHRUM_STARTS(n), picks, p,
                               table, BAITHRUM_CLUSTER_WORDS(n), i);
         if (number != 0)
             return refused("row", number);
@@ -60,7 +69,8 @@ int main(void) {
     number = baithrum_close(table, BAITHRUM_CLUSTER_WORDS(n), fractions, BAITHRUM_CLOSE_ANSWERS);
     if (number != 0)
         return refused("close", number);
-    printf("copies %u, picks %u, contacts %u\n", (unsigned)n, (unsigned)p, (unsigned)table[BAITHRUM_CLUSTER_CONTACTS]);
+    printf("copies %u, picks %u, cutoff %g, contacts %u\n", (unsigned)n, (unsigned)p,
+           baithrum_float(table[BAITHRUM_CLUSTER_CUTOFF]), (unsigned)table[BAITHRUM_CLUSTER_CONTACTS]);
     printf("largest %.9g\ncontacted %.9g\npair %.9g\n", baithrum_float(fractions[BAITHRUM_CLOSE_LARGEST]),
            baithrum_float(fractions[BAITHRUM_CLOSE_CONTACTED]), baithrum_float(fractions[BAITHRUM_CLOSE_PAIR]));
     return 0;

@@ -6,8 +6,8 @@
 // A program uses what it needs.
 #![allow(dead_code)]
 
-/// The version of include/baithrum.h that this follows, 0.1.1.
-pub const VERSION: u32 = 101;
+/// The version of include/baithrum.h that this follows, 0.2.0.
+pub const VERSION: u32 = 200;
 
 // What a call results in. A number keeps its meaning in every call.
 pub const DONE: u32 = 0;
@@ -26,6 +26,8 @@ pub const ROW_LEFT: u32 = 12;
 pub const NODES: u32 = 13;
 pub const BLOCK: u32 = 14;
 pub const CELL: u32 = 15;
+pub const REACH: u32 = 16;
+pub const OTHER_CUTOFF: u32 = 17;
 
 /// The sentence for a result.
 pub const fn sentence(number: u32) -> &'static str {
@@ -46,18 +48,24 @@ pub const fn sentence(number: u32) -> &'static str {
         NODES => "the tree has more nodes than the smallest node table has whole records",
         BLOCK => "the block is not one that the program `frame` reads",
         CELL => "the cell is not valid: an extent is not finite or not above 2^-23 angstrom",
+        REACH => "the cutoff is not finite, not above 0 or above 16 angstrom",
+        OTHER_CUTOFF => "the row's cutoff differs in bits from the table's",
         _ => "no result of this library",
     }
 }
 
 // The limits: solute atoms, and waters; indices; kept copies; picks; a finite bound of the cell and a finite coordinate, in magnitude, in
-// angstrom.
+// angstrom; the cutoff, in angstrom.
 pub const MAX_ATOMS: usize = 65_536;
 pub const MAX_INDICES: usize = 256;
 pub const MAX_COPIES: usize = 4_096;
 pub const MAX_PICKS: usize = 65_536;
 pub const MAX_BOUND: f32 = 65_536.0;
 pub const MAX_COORDINATE: f32 = 1_048_576.0;
+pub const MAX_REACH: f32 = 16.0;
+
+/// The original's cutoff, in angstrom, which the program `frame` uses.
+pub const CUTOFF: f32 = 4.2;
 
 /// Words of starts for n copies.
 pub const fn starts(n: usize) -> usize {
@@ -66,7 +74,7 @@ pub const fn starts(n: usize) -> usize {
 
 /// Words of the cluster table for n copies.
 pub const fn cluster_words(n: usize) -> usize {
-    2 + 3 * n
+    3 + 3 * n
 }
 
 /// Floats of centers for n copies.
@@ -119,17 +127,18 @@ pub const FRAME_DEPTH: usize = 8;
 pub const FRAME_LEAVES: usize = 9;
 pub const FRAME_DRY: usize = 10;
 
-// The words of a cluster table of n copies: n, the contacts, then n parents, n degrees and n marks.
+// The words of a cluster table of n copies: n, the contacts, the cutoff's bits, then n parents, n degrees and n marks.
 pub const CLUSTER_COPIES: usize = 0;
 pub const CLUSTER_CONTACTS: usize = 1;
-pub const CLUSTER_PARENTS: usize = 2;
+pub const CLUSTER_CUTOFF: usize = 2;
+pub const CLUSTER_PARENTS: usize = 3;
 
 pub const fn cluster_degrees(n: usize) -> usize {
-    2 + n
+    3 + n
 }
 
 pub const fn cluster_marks(n: usize) -> usize {
-    2 + 2 * n
+    3 + 2 * n
 }
 
 // The words of a node record; the eighth is 0.
@@ -157,10 +166,10 @@ unsafe extern "C" {
         answers: *mut u32, answers_len: usize,
     ) -> u32;
 
-    pub fn baithrum_open(table: *mut u32, table_len: usize, n: usize) -> u32;
+    pub fn baithrum_open(table: *mut u32, table_len: usize, n: usize, cutoff: f32) -> u32;
 
     pub fn baithrum_row(
-        lx: f32, ly: f32, lz: f32, hx: f32, hy: f32, hz: f32, solutes: *const f32, solutes_len: usize,
+        lx: f32, ly: f32, lz: f32, hx: f32, hy: f32, hz: f32, cutoff: f32, solutes: *const f32, solutes_len: usize,
         starts: *const u32, starts_len: usize, picks: *const u32, picks_len: usize,
         table: *mut u32, table_len: usize, i: usize,
     ) -> u32;
@@ -197,7 +206,7 @@ unsafe extern "C" {
     ) -> u32;
 
     pub fn baithrum_frame(
-        lx: f32, ly: f32, lz: f32, hx: f32, hy: f32, hz: f32, solutes: *const f32, solutes_len: usize,
+        lx: f32, ly: f32, lz: f32, hx: f32, hy: f32, hz: f32, cutoff: f32, solutes: *const f32, solutes_len: usize,
         per: usize, indices: *const u32, indices_len: usize, waters: *const f32, waters_len: usize,
         starts: *mut u32, starts_len: usize, picks: *mut u32, picks_len: usize,
         clusters: *mut u32, clusters_len: usize, center_order: *mut u32, center_order_len: usize,

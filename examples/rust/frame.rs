@@ -1,5 +1,5 @@
 //! Reads a block from standard input (docs/RULES.md, 'Program `frame`'), judges it by one call and prints the answers, `blank`, or the refusal.
-//! Built by examples/rust/build.
+//! The cutoff, in angstrom, is its argument, or 4.2 where it has none. Built by examples/rust/build.
 
 mod baithrum;
 
@@ -59,12 +59,12 @@ impl Tables {
 
 /// The call over slices. It is safe: a slice is aligned, not null and good for its length, and what is borrowed for writing overlaps
 /// nothing. It takes 1.29 MB of stack; a thread that Rust starts has 2 MB.
-fn judge(frame: &Frame, tables: &mut Tables, answers: &mut [u32]) -> u32 {
+fn judge(frame: &Frame, cutoff: f32, tables: &mut Tables, answers: &mut [u32]) -> u32 {
     let [lx, ly, lz, hx, hy, hz] = frame.cell;
     let (f, t) = (frame, tables);
     unsafe {
         baithrum_frame(
-            lx, ly, lz, hx, hy, hz, f.solutes.as_ptr(), f.solutes.len(),
+            lx, ly, lz, hx, hy, hz, cutoff, f.solutes.as_ptr(), f.solutes.len(),
             f.per, f.indices.as_ptr(), f.indices.len(), f.waters.as_ptr(), f.waters.len(),
             t.starts.as_mut_ptr(), t.starts.len(), t.picks.as_mut_ptr(), t.picks.len(),
             t.clusters.as_mut_ptr(), t.clusters.len(), t.center_order.as_mut_ptr(), t.center_order.len(),
@@ -113,6 +113,14 @@ fn refused(what: &str, number: u32) -> ExitCode {
 }
 
 fn main() -> ExitCode {
+    let cutoff = match std::env::args().nth(1).map(|word| word.parse()) {
+        None => CUTOFF,
+        Some(Ok(cutoff)) => cutoff,
+        Some(Err(_)) => {
+            eprintln!("usage: frame_rust [CUTOFF] < BLOCK");
+            return ExitCode::FAILURE;
+        }
+    };
     let mut block = vec![];
     if let Err(error) = std::io::stdin().take(BLOCK_BYTES as u64 + 1).read_to_end(&mut block) {
         eprintln!("standard input: {error}");
@@ -123,11 +131,11 @@ fn main() -> ExitCode {
     let mut records = FIRST_RECORDS;
     let mut tables = Tables::new(frame.waters.len() / 3, records);
     let mut answers = [0; FRAME_ANSWERS];
-    let mut number = judge(&frame, &mut tables, &mut answers);
+    let mut number = judge(&frame, cutoff, &mut tables, &mut answers);
     while number == NODES {
         records *= 2;
         tables.lend_records(records);
-        number = judge(&frame, &mut tables, &mut answers);
+        number = judge(&frame, cutoff, &mut tables, &mut answers);
     }
     if number != DONE {
         return refused("frame", number);

@@ -18,6 +18,7 @@ use Rattle.block.proofs.Header.{block-length}
 use Rattle.block.proofs.Reading.{length-values}
 use Rattle.block.proofs.Answers.{Owed, cramped, no-block, read, refused, taken}
 use Rattle.listing.specs.Listing.{refusedText}
+use Rattle.touch.specs.Touch.{rustCutoff}
 use Rattle.mixing.specs.Frame.{frameOf}
 use Rattle.frame_text.specs.Texts.{programTables, frameText}
 use Rattle.block_text.specs.Printed.{frameIn, printed}
@@ -96,11 +97,11 @@ module _ {b is : List ℕ} {ss ws : List Float} {per s k w : ℕ} {c : Cell} {is
   unfolding over watersOf
   waters-read = rw (r .waters-are, r .w-is) (take-at (watersOf b) (drop (length (watersOf b)) ws) (waterCount b * 3) (length-values (floatAt b) (waterCount b * 3) _))
 
-  pub frame-read : frameOf c (take (s * 3) ss₁) per (take k is₁) (take (w * 3) ws₁) ≡ frameIn b
+  pub frame-read : frameOf c rustCutoff (take (s * 3) ss₁) per (take k is₁) (take (w * 3) ws₁) ≡ frameIn b
   unfolding frameIn
   frame-read = rw (solutes-read, indices-read, waters-read, r .per-is, r .cell-is)
 
-  pub text-read : frameText (frameOf c (take (s * 3) ss₁) per (take k is₁) (take (w * 3) ws₁)) programTables ≡ printed b
+  pub text-read : frameText (frameOf c rustCutoff (take (s * 3) ss₁) per (take k is₁) (take (w * 3) ws₁)) programTables ≡ printed b
   unfolding printed
   text-read = rw (frame-read, r .block)
 

@@ -4,13 +4,14 @@ use Prim.Native.Nat.{ℕ, _+_, _*_}
 use mathlib.Core.Bool.{cond}
 use mathlib.Core.List.{List}
 use Rattle.block.specs.Block.{isBlock, blockCell, perCopy, solutesOf, indicesOf, watersOf}
+use Rattle.touch.specs.Touch.{rustCutoff}
 use Rattle.listing.specs.Listing.{refusedText}
 use Rattle.mixing.specs.Frame.{Frame, frameOf}
 use Rattle.frame_text.specs.Texts.{programTables, frameText}
 
--- the frame that a block holds
+-- the frame that a block holds; its contacts are at the Rust's cutoff, 4.2
 unfoldable pub frameIn : List ℕ → Frame
-frameIn b = frameOf (blockCell b) (solutesOf b) (perCopy b) (indicesOf b) (watersOf b)
+frameIn b = frameOf (blockCell b) rustCutoff (solutesOf b) (perCopy b) (indicesOf b) (watersOf b)
 
 -- what is printed for the bytes b
 unfoldable pub printed : List ℕ → List ℕ

@@ -10,6 +10,7 @@ ghost use Rattle.listing.specs.Listing.{textAnswer, textAfter};
 ghost use Rattle.block_text.specs.Printed.{printed};
 use block::Block;
 use listing::Listed;
+use touch::CUTOFF;
 
 // The bytes that a text has at most: a listing's lines besides the leaves have 162, and each of 2,048 leaves has 116, where every
 // number has twenty digits.
@@ -42,6 +43,7 @@ fn put_block(bytes: &[u8], out: &mut [u8]) -> Listed
             cell,
         } => frame_text::put_frame(
             cell,
+            CUTOFF,
             &solutes[..s * 3],
             per,
             &indices[..k],

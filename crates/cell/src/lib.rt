@@ -1,5 +1,5 @@
 // The cell of a frame and the geometry in it (docs/RULES.md, 'Cell'): extent, validity, wrap, minimum image, squared
-// distance, volume. Lengths are in angstrom. Every f32 operation rounds once, left to right.
+// distance, volume, and the bounds of a reach (16). Lengths are in angstrom. Every f32 operation rounds once, left to right.
 ghost use mathlib.Core.Path.{_≡_};
 ghost use mathlib.Core.Bool.{true, cond};
 ghost use Prim.Native.Nat.{_+_, _*_, _<_};
@@ -7,10 +7,14 @@ ghost use lib.ListN.{length};
 ghost use lib.Ieee.{binary32, ofBits};
 ghost use Rattle.base.specs.Entry.{old};
 ghost use Rattle.cell.specs.Cell.{wrapAxis, imageAxis, validAxis, extentOf, valid, wrap as wrapOf, minImage, squared, minus, distance2, volumeOf, pointAt, finitePoint};
+ghost use Rattle.cell.specs.Reach.{soundReach};
 ghost use Rattle.cell.specs.Inner.{withinAxis, withinAll};
 
 // f32 EPSILON, 2^-23: an extent at or below it makes a cell not valid.
 pub const EPSILON: f32 = 1.1920929e-7;
+
+// The longest reach.
+pub const MAX_REACH: f32 = 16.0;
 
 pub struct Vec3 {
     pub x: f32,
@@ -190,4 +194,11 @@ pub fn is_finite(p: Vec3) -> bool
 {
     numbers::class::is_finite32(p.x)
         & (numbers::class::is_finite32(p.y) & numbers::class::is_finite32(p.z))
+}
+
+// Whether a reach, as the cutoff of contacts, is finite, above 0 and at most MAX_REACH; where it is not, a call refuses 16.
+pub fn sound_reach(k: f32) -> bool
+    ensures { λ r. ⌜ r ≡ soundReach k ⌝ }
+{
+    numbers::class::is_finite32(k) & ((0.0 < k) & (k <= MAX_REACH))
 }

@@ -7,7 +7,7 @@ use native.Mathlib.Omega.{arith}
 use lib.ListN.{length, getD, set, length-set}
 use lib.Seq.{getD-set-same, getD-set-other}
 use Rattle.union_find.specs.Parents.{joined}
-use Rattle.cluster_table.specs.Table.{tableCopies, contacts, parents, degree, mark, words, withParents, counted, contact, header, degreeAt, markAt}
+use Rattle.cluster_table.specs.Table.{tableCopies, contacts, tableCutoff, parents, degree, mark, words, withParents, counted, contact, header, degreeAt, markAt}
 use Rattle.cluster_table.proofs.Parts.{parents-set, parents-set-contacts, with-length, with-parents, with-head, with-tail}
 
 -- x is t with a contact of i and j more and the parents p
@@ -19,6 +19,7 @@ pub record Wrote (n : ℕ) (t p : List ℕ) (i j : ℕ) (x : List ℕ) : Type 0 
   pub rest : (k : ℕ) → k < n → (k ≡ i → ⊥) → (k ≡ j → ⊥) → degree n x k ≡ degree n t k
   pub mark : (k : ℕ) → mark n x k ≡ mark n t k
   pub own : tableCopies x ≡ tableCopies t
+  pub cutoff : tableCutoff x ≡ tableCutoff t
   pub same : length x ≡ length t
 
 -- ---- the three words raised
@@ -75,6 +76,7 @@ module _ (n : ℕ) (t : List ℕ) (i j : ℕ) (long : words n ≤ length t) (lo 
         rest = λ k h a b. away (degreeAt n k) (λ z. omega arith) (λ z. a (omega arith)) (λ z. b (omega arith));
         mark = λ k. away (markAt n k) (λ z. omega arith) (λ z. omega arith) (λ z. omega arith);
         own = away 0 (λ z. omega arith) (λ z. omega arith) (λ z. omega arith);
+        cutoff = away 2 (λ z. omega arith) (λ z. omega arith) (λ z. omega arith);
         same = length-set w 1 (contacts w + 1) ∙ w-length;
       }
 
@@ -110,6 +112,7 @@ module _ (n : ℕ) (t q : List ℕ) (i j : ℕ) (long : words n ≤ length t) (l
         rest = λ k h a b. c .rest k h a b ∙ tail-at k;
         mark = λ k. c .mark k ∙ mark-at k;
         own = c .own ∙ head-at 0 (omega arith);
+        cutoff = c .cutoff ∙ head-at 2 (omega arith);
         same = c .same ∙ u-length;
       }
 

@@ -10,22 +10,22 @@ use Rattle.base.specs.Tables.{firstNumbers}
 use Rattle.base.proofs.Filling.{numbers-length, numbers-at}
 use Rattle.cluster_table.specs.Table.{header, words}
 
-module _ (n : ℕ) where
+module _ (n b : ℕ) where
   -- parents, degrees and marks
   abbrev pub parts : List ℕ
   parts = firstNumbers n ++ replicate (n + n) 0
 
   abbrev pub whole : List ℕ
-  whole = n ∷ 0 ∷ parts
+  whole = n ∷ 0 ∷ b ∷ parts
 
   pub whole-length : length whole ≡ words n
   whole-length = simp (length-append, length-replicate, numbers-length) (omega arith)
 
   past : (k : ℕ) → getD whole (header + k) 0 ≡ getD parts k 0
-  past k = ap (λ (m : ℕ). getD whole m 0) (two k)
+  past k = ap (λ (m : ℕ). getD whole m 0) (three k)
     where
-      two : (k : ℕ) → header + k ≡ suc (suc k)
-      two k = omega arith
+      three : (k : ℕ) → header + k ≡ suc (suc (suc k))
+      three k = omega arith
 
   pub parent-at : (i : ℕ) → i < n → getD whole (header + i) 0 ≡ i
   parent-at i l = past i ∙ List·getD-append (firstNumbers n) (replicate (n + n) 0) 0 i (rw (numbers-length n) l) ∙ numbers-at n i l

@@ -9,6 +9,8 @@ pub mod Pairs
 pub mod Fills
 -- the test of a table, part by part
 pub mod Checks
+-- what Row asks of a table, test by test
+pub mod RowChecks
 -- the steps of `add_contact`
 pub mod Steps
 -- the fractions of a sound table

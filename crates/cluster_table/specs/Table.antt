@@ -1,4 +1,4 @@
--- docs/RULES.md, 'Clusters': the cluster table, one list of words: copies n, contacts, then n parents, n degrees, n marks.
+-- docs/RULES.md, 'Clusters': the cluster table, one list of words: copies n, contacts, the cutoff's bits, then n parents, n degrees, n marks.
 -- Definitions only. Assumes nothing.
 use mathlib.Core.Bool.{Bool, _&&_}
 use mathlib.Core.List.{List, _∷_, _++_}
@@ -11,13 +11,17 @@ use Rattle.union_find.specs.Parents.{joined, soundParents}
 
 -- the words before the parents
 abbrev pub header : ℕ
-header = 2
+header = 3
 
 abbrev pub tableCopies : List ℕ → ℕ
 tableCopies t = getD t 0 0
 
 abbrev pub contacts : List ℕ → ℕ
 contacts t = getD t 1 0
+
+-- the bits of the cutoff that the table was opened with
+abbrev pub tableCutoff : List ℕ → ℕ
+tableCutoff t = getD t 2 0
 
 abbrev pub parents : ℕ → List ℕ → List ℕ
 parents n t = take n (drop header t)
@@ -40,9 +44,9 @@ abbrev pub words : ℕ → ℕ
 words n = header + 3 * n
 
 -- ---- opening
--- n, no contacts, each its own parent, and zeros
-unfoldable pub opened : ℕ → List ℕ → List ℕ
-opened n t = over (n ∷ 0 ∷ (firstNumbers n ++ replicate (n + n) 0)) t
+-- n, no contacts, the cutoff's bits b, each its own parent, and zeros
+unfoldable pub opened : ℕ → ℕ → List ℕ → List ℕ
+opened n b t = over (n ∷ 0 ∷ b ∷ (firstNumbers n ++ replicate (n + n) 0)) t
 
 -- ---- a contact
 -- the parents p in their place
@@ -70,7 +74,7 @@ pairs n = n * (n - 1) / 2
 unfoldable pub soundWords : ℕ → List ℕ → ℕ → Bool
 soundWords n t i = ltb (degree n t i) n && leb (mark n t i) 1
 
--- n is the table's own, contacts do not exceed the possible pairs, and parents, degrees and marks are sound
+-- n is the table's own, contacts do not exceed the possible pairs, and parents, degrees and marks are sound; the cutoff's bits may be any
 unfoldable pub soundTable : ℕ → List ℕ → Bool
 unfolding soundParents soundWords
 soundTable n t = eqb (tableCopies t) n && (leb (contacts t) (pairs n) && (soundParents (parents n t) && allBelow n (soundWords n t)))

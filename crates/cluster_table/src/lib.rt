@@ -1,5 +1,5 @@
-// The cluster table (docs/RULES.md, 'Clusters'), one lent list of words: copies n, contacts, then n parents, n degrees, n marks. Here it is opened
-// and tested, gets its contacts and marks, and gives its fractions. A function asks for what it needs and tests none of it: the calls that do
+// The cluster table (docs/RULES.md, 'Clusters'), one lent list of words: copies n, contacts, the cutoff's bits, then n parents, n degrees, n marks. Here
+// it is opened and tested, gets its contacts and marks, and gives its fractions. A function asks for what it needs and tests none of it: the calls that do
 // are Open, Row and Close of `clusters`.
 ghost use mathlib.Core.Path.{_≡_};
 ghost use mathlib.Core.Bool.{true};
@@ -9,12 +9,14 @@ ghost use lib.ListN.{length, getD, set};
 ghost use Rattle.base.specs.Entry.{old};
 ghost use Rattle.base.specs.Limits.{maxCopies};
 ghost use Rattle.base.specs.Range.{allBelow, count};
+ghost use Rattle.base.specs.Refusals.{firstRefusal};
 ghost use Rattle.union_find.specs.Parents.{soundParents};
 ghost use Rattle.cluster_table.specs.Table.{parents, degree, contacts, mark, markAt, words, pairs, contact, opened, soundWords, soundTable};
+ghost use Rattle.cluster_table.specs.Refusals.{rowTableRefusals};
 ghost use Rattle.cluster_table.specs.Fractions.{ratio, tableFractions};
 
 // The words before the parents.
-pub const HEADER: usize = 2;
+pub const HEADER: usize = 3;
 
 // The three fractions of a table.
 pub struct ClusterFractions {
@@ -36,13 +38,14 @@ fn pair_count(n: usize) -> usize
 
 // ---- opening
 
-// Writes the table of n copies with no contact.
-pub fn open_table(table: &mut [u32], n: usize)
+// Writes the table of n copies with no contact; `cutoff` is the cutoff's bits.
+pub fn open_table(table: &mut [u32], n: usize, cutoff: u32)
     requires { ⌜ (n ≤ maxCopies) × (words n ≤ length (now table)) ⌝ }
-    ensures { λ _. ⌜ now (table .exit) ≡ opened n (old table) ⌝ }
+    ensures { λ _. ⌜ now (table .exit) ≡ opened n cutoff (old table) ⌝ }
 {
     table[0] = n as u32;
     table[1] = 0;
+    table[2] = cutoff;
     let mut i = 0;
     while i < n {
         table[HEADER + i] = i as u32;
@@ -84,6 +87,39 @@ pub fn is_sound(table: &[u32], n: usize) -> bool
         return false;
     }
     words_sound(table, n)
+}
+
+// ---- what Row asks of a table
+
+// The first of 16, 7, 9, 17, 10 and 11 that holds for row i with this cutoff on a table of n copies, or 0.
+pub fn row_refusal(table: &[u32], n: usize, cutoff: f32, i: usize) -> u32
+    requires { ⌜ n ≤ maxCopies ⌝ }
+    ensures { λ r. ⌜ r ≡ firstRefusal (rowTableRefusals n cutoff (old table) i) ⌝ }
+{
+    let reaches = cell::sound_reach(cutoff);
+    let room = HEADER + 3 * n;
+    if !reaches {
+        return 16;
+    }
+    if table.len() < room {
+        return 7;
+    }
+    let sound = is_sound(table, n);
+    // Bit for bit: the table's word may be any, also that of no number.
+    let other = numbers::class::to_bits32(cutoff) != table[2];
+    if !sound {
+        return 9;
+    }
+    if other {
+        return 17;
+    }
+    if i >= n {
+        return 10;
+    }
+    if table[HEADER + n + n + i] == 1 {
+        return 11;
+    }
+    0
 }
 
 // ---- contacts and marks

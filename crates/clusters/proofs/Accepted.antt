@@ -1,7 +1,9 @@
--- What input has that none of 1, 2, 3, 4, 15 and 8 refuses. Assumes nothing.
+-- What input has that none of 1, 2, 3, 4, 15 and 8 refuses, with a cutoff that 16 does not. Assumes nothing.
 use mathlib.Core.Path.{_≡_}
 use mathlib.Core.Bool.{true}
+use lib.Ieee.{Float}
 use Rattle.base.specs.Refusals.{firstRefusal}
+use Rattle.cell.specs.Reach.{soundReach}
 use Rattle.pick_lists.specs.Sound.{soundLists}
 use Rattle.pick_lists.specs.Input.{Input, inputRefusals}
 use Rattle.pick_lists.proofs.SoundLists.{Lists, sound-lists}
@@ -16,5 +18,5 @@ module _ (f : Input) (h : firstRefusal (inputRefusals f) ≡ 0) where
   pub accepted-lists : Lists (f .solutes) (f .starts) (f .picks)
   accepted-lists = sound-lists (f .solutes) (f .starts) (f .picks) accepted-sound
 
-  pub accepted-tested : tested (f .cell) (f .solutes) ≡ true
-  accepted-tested = tested-frame (f .cell) (f .solutes) (f .waters) (input-accepted f h .0)
+  pub accepted-tested : (k : Float) → soundReach k ≡ true → tested (f .cell) k (f .solutes) ≡ true
+  accepted-tested k = tested-frame (f .cell) k (f .solutes) (f .waters) (input-accepted f h .0)

@@ -1,33 +1,37 @@
--- What Row and Close answer on a table that holds a graph: neither 7 nor 9 comes, and Close's numbers are the graph's.
+-- What Row and Close answer on a table that holds a graph: neither 7 nor 9 comes, 17 goes by the bits that the table holds, and Close's numbers are
+-- the graph's.
 -- Assumes nothing.
 use mathlib.Core.Path.{_≡_, refl, sym, ap, _∙_, subst}
 use mathlib.Core.Bool.{Bool, true, false, cond}
 use mathlib.Core.Logic.{_⊎_, ⊎-elim}
-use mathlib.Core.List.{List}
+use mathlib.Core.List.{List, [], _∷_}
 use Prim.Native.Nat.{ℕ, _≤_, _<_}
 use native.Mathlib.Omega.{arith}
 use native.Mathlib.Decide.{decLe}
 use lib.ListN.{length}
 use lib.Dec.{eqb, ltb, leb}
+use lib.Ieee.{Float, binary32, toBits}
 use borrow.Author.Tests.{lt-ltb, le-ltb, le-leb, lt-leb}
 use Rattle.base.specs.Limits.{maxCopies}
-use Rattle.base.specs.Refusals.{firstRefusal}
+use Rattle.base.specs.Refusals.{refuse, firstRefusal}
 use Rattle.base.specs.Range.{bit, allBelow, count}
 use Rattle.union_find.specs.Parents.{largestSet}
 use Rattle.union_find.proofs.Forest.{sound-parents}
 use Rattle.base.proofs.Ranges.{all-true, all-false, all-same, count-same}
 use Rattle.base.proofs.Tests.{bit-le}
+use Rattle.cell.specs.Reach.{reach, soundReach}
 use Rattle.cluster_table.specs.Table.{parents, degree, mark, words, soundWords, soundTable}
+use Rattle.cluster_table.specs.Refusals.{otherCutoff, rowTableRefusals}
 use Rattle.cluster_table.specs.Fractions.{threeFractions, tableFractions}
 use Rattle.cluster_table.proofs.Parts.{parents-length}
 use Rattle.cluster_table.proofs.Checks.{words-right, table-words}
+use Rattle.cluster_table.proofs.RowChecks.{table-chain}
 use Rattle.clusters.specs.declared.Closing.the-variants.{Refused}
-use Rattle.clusters.specs.Answers.{rowTableRefusals, closed, closeAnswer}
+use Rattle.clusters.specs.Answers.{closed, closeAnswer}
 use Rattle.clusters.specs.Graph.{degreeOf, contactsOf, Largest}
 use Rattle.clusters.specs.Order.{graphFractions}
 use Rattle.clusters.proofs.Holds.{Holds}
 use Rattle.clusters.proofs.Sums.{contacts-few, degree-below}
-use Rattle.clusters.proofs.Refusals.{table-chain}
 use Rattle.clusters.proofs.Closes.{waits, gives}
 use Rattle.clusters.proofs.Largest.{largest-of, one-largest}
 
@@ -40,7 +44,7 @@ mark-bit : (b : Bool) → eqb (bit b) 1 ≡ b
 mark-bit true = refl
 mark-bit false = refl
 
-module _ {n : ℕ} {g : ℕ → ℕ → Bool} {acc : ℕ → Bool} {t : List ℕ} (s : Holds n g acc t) where
+module _ {n bits : ℕ} {g : ℕ → ℕ → Bool} {acc : ℕ → Bool} {t : List ℕ} (s : Holds n bits g acc t) where
   -- ---- the table is sound
   size : length (parents n t) ≡ n
   size = parents-length n t (omega (arith, s .long))
@@ -54,16 +58,20 @@ module _ {n : ℕ} {g : ℕ → ℕ → Bool} {acc : ℕ → Bool} {t : List ℕ
       sym (table-words n t (s .own) (rw (s .contacts-are) (contacts-few n g (s .inside))) (sound-parents (parents n t) .1 (s .sound)))
       ∙ all-true n (soundWords n t) words-at
 
-  -- ---- a row: 10, 11 or none
-  mark-test : (i : ℕ) → i < n → eqb (mark n t i) 1 ≡ acc i
+  -- ---- a row: 16, 17, 10, 11 or none
+  pub mark-test : (i : ℕ) → i < n → eqb (mark n t i) 1 ≡ acc i
   mark-test i l = rw (s .marks i l) (mark-bit (acc i))
 
-  pub row-answer : (i : ℕ) → firstRefusal (rowTableRefusals n t i) ≡ cond (leb n i) 10 (cond (acc i) 11 0)
-  row-answer i = table-chain n t i ∙ rw (le-ltb (length t) (words n) (s .long), sound-table) (go (decLe n i))
+  numbered : (i : ℕ) → _≡_ {A = ℕ} (cond (leb n i) 10 (cond (eqb (mark n t i) 1) 11 0)) (cond (leb n i) 10 (cond (acc i) 11 0))
+  numbered i = go (decLe n i)
     where
       go : Dec (n ≤ i) → _≡_ {A = ℕ} (cond (leb n i) 10 (cond (eqb (mark n t i) 1) 11 0)) (cond (leb n i) 10 (cond (acc i) 11 0))
       go (yes h) = rw (le-leb n i h)
       go (no h) = rw (lt-leb n i (omega arith), mark-test i (omega arith))
+
+  pub row-answer : (k : Float) (i : ℕ) → firstRefusal (rowTableRefusals n k t i) ≡ firstRefusal (reach k ∷ otherCutoff k bits ∷ refuse 10 (leb n i) ∷ refuse 11 (acc i) ∷ [])
+  unfolding reach otherCutoff firstRefusal
+  row-answer k i = table-chain n k t i ∙ rw (le-ltb (length t) (words n) (s .long), sound-table, s .cutoff, numbered i)
 
   -- ---- a close: 12 or none
   all-marks : allBelow n (λ i. eqb (mark n t i) 1) ≡ allBelow n acc

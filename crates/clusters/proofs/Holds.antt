@@ -1,4 +1,4 @@
--- A table that holds a graph: its sets are the chains, its degrees and contacts the counts. One contact more keeps that.
+-- A table that holds a graph, and the bits of a cutoff: its sets are the chains, its degrees and contacts the counts. One contact more keeps that.
 -- Assumes nothing.
 use mathlib.Core.Path.{_≡_, refl, sym, ap, _∙_}
 use mathlib.Core.Bool.{Bool, true, false}
@@ -9,7 +9,7 @@ use native.Mathlib.Omega.{arith}
 use lib.ListN.{length}
 use Rattle.base.specs.Range.{bit, count}
 use Rattle.union_find.specs.Parents.{rootOf, joined}
-use Rattle.cluster_table.specs.Table.{tableCopies, contacts, parents, degree, mark, words, contact}
+use Rattle.cluster_table.specs.Table.{tableCopies, contacts, tableCutoff, parents, degree, mark, words, contact}
 use Rattle.clusters.specs.Graph.{Chain, either, degreeOf, contactsOf}
 use Rattle.union_find.proofs.Forest.{decide, Sound}
 use Rattle.base.proofs.Ranges.{count-same, count-add, total-add}
@@ -18,9 +18,10 @@ use Rattle.cluster_table.proofs.Contacts.{wrote}
 use Rattle.cluster_table.proofs.Parts.{parents-length}
 use Rattle.clusters.proofs.Chains.{or-right, Adds, adds-inside, merge}
 
-pub record Holds (n : ℕ) (g : ℕ → ℕ → Bool) (acc : ℕ → Bool) (t : List ℕ) : Type 0 where
+pub record Holds (n bits : ℕ) (g : ℕ → ℕ → Bool) (acc : ℕ → Bool) (t : List ℕ) : Type 0 where
   pub long : words n ≤ length t
   pub own : tableCopies t ≡ n
+  pub cutoff : tableCutoff t ≡ bits
   pub sound : Sound (parents n t)
   pub sets : (i j : ℕ) → i < n → j < n → (rootOf (parents n t) i ≡ rootOf (parents n t) j) ↔ Chain g i j
   pub degrees : (i : ℕ) → i < n → degree n t i ≡ degreeOf n g i
@@ -69,8 +70,8 @@ module _ {n : ℕ} {g h : ℕ → ℕ → Bool} {a b : ℕ} (w : Adds n g h a b)
       (count-add n (g a) (h a) b (w .high) (λ y l m. w .old a y (λ q. m (q .1))) (w .fresh) (w .added))
 
 -- ---- one contact more in the table
-pub contact-holds : {n : ℕ} {g h : ℕ → ℕ → Bool} {acc : ℕ → Bool} {t : List ℕ} {a b : ℕ} → Holds n g acc t → Adds n g h a b → Holds n h acc (contact n t a b)
-contact-holds {n} {g} {h} {acc} {t} {a} {b} s w =
+pub contact-holds : {n bits : ℕ} {g h : ℕ → ℕ → Bool} {acc : ℕ → Bool} {t : List ℕ} {a b : ℕ} → Holds n bits g acc t → Adds n g h a b → Holds n bits h acc (contact n t a b)
+contact-holds {n} {bits} {g} {h} {acc} {t} {a} {b} s w =
     let p = parents n t in
     let lp : length p ≡ n = parents-length n t (omega (arith, s .long)) in
     let la : a < length p = omega (arith, w .low, w .high) in
@@ -80,6 +81,7 @@ contact-holds {n} {g} {h} {acc} {t} {a} {b} s w =
     record {
       long = omega (arith, s .long, r .same);
       own = r .own ∙ s .own;
+      cutoff = r .cutoff ∙ s .cutoff;
       sound = rw (r .tree) (j .sound);
       sets = rw (r .tree) (merge w (rootOf p) (rootOf (joined p a b)) (s .sets) (λ x l. j .roots x (omega arith)));
       degrees = λ i l.

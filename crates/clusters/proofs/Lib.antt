@@ -19,11 +19,11 @@ pub mod Held
 pub mod Calls
 -- the order rule, and that Close's answer does not depend on the order
 pub mod OrderRule
--- a run worked out: ten calls on four copies
+-- two runs worked out: ten calls on four copies, and eighteen at another cutoff
 pub mod Examples
--- Open's refusals; Row's refusals of a table
+-- Open's refusals, test by test
 pub mod Refusals
--- Row's refusals, test by test
+-- Row's refusals: the input's, then the table's
 pub mod RowRefusals
 -- Close's answer, test by test
 pub mod Closes

@@ -1,4 +1,4 @@
--- A freshly opened table holds the graph with no contact. Assumes nothing.
+-- A freshly opened table holds the graph with no contact, and its cutoff's bits. Assumes nothing.
 use mathlib.Core.Path.{_≡_, refl, sym, ap, _∙_, subst}
 use mathlib.Core.Bool.{Bool, false, false≢true}
 use mathlib.Core.List.{List, _∷_, _++_, append-assoc}
@@ -50,32 +50,33 @@ module _ (n : ℕ) (g : ℕ → ℕ → Bool) (empty : (i j : ℕ) → g i j ≡
   sound : Sound p
   sound = sound-of p (record { at = λ i l. rw (at i (rw size at l)) l }) (λ x l. (0, x, here (at x (rw size at l))))
 
-  module _ (lent : List ℕ) (long : words n ≤ length lent) where
+  module _ (bits : ℕ) (lent : List ℕ) (long : words n ≤ length lent) where
     -- what follows the parents
     zeros : List ℕ
     zeros = replicate (n + n) 0 ++ drop (words n) lent
 
-    is-opened : opened n lent ≡ n ∷ 0 ∷ (p ++ zeros)
+    is-opened : opened n bits lent ≡ n ∷ 0 ∷ bits ∷ (p ++ zeros)
     unfolding opened over p zeros
     is-opened =
-        ap (λ (k : ℕ). whole n ++ drop k lent) (whole-length n)
-        ∙ ap (λ (l : List ℕ). n ∷ 0 ∷ l) (append-assoc (firstNumbers n) (replicate (n + n) 0) (drop (words n) lent))
+        ap (λ (k : ℕ). whole n bits ++ drop k lent) (whole-length n bits)
+        ∙ ap (λ (l : List ℕ). n ∷ 0 ∷ bits ∷ l) (append-assoc (firstNumbers n) (replicate (n + n) 0) (drop (words n) lent))
 
-    word : (m : ℕ) → m < n + n → getD (opened n lent) (degreeAt n m) 0 ≡ 0
+    word : (m : ℕ) → m < n + n → getD (opened n bits lent) (degreeAt n m) 0 ≡ 0
     unfolding opened over
-    word m l = List·getD-append (whole n) _ 0 (degreeAt n m) (omega (arith, whole-length n)) ∙ zero-at n m l
+    word m l = List·getD-append (whole n bits) _ 0 (degreeAt n m) (omega (arith, whole-length n bits)) ∙ zero-at n bits m l
 
-    pub opened-holds : Holds n g (λ i. false) (opened n lent)
+    pub opened-holds : Holds n bits g (λ i. false) (opened n bits lent)
     unfolding p zeros degreeOf contactsOf
     opened-holds =
-        let tree : parents n (opened n lent) ≡ p = ap (parents n) is-opened ∙ take-at p zeros n size in
+        let tree : parents n (opened n bits lent) ≡ p = ap (parents n) is-opened ∙ take-at p zeros n size in
         record {
           long = rw is-opened (simp (length-append, length-replicate, length-drop, size) (omega arith));
           own = rw is-opened refl;
+          cutoff = rw is-opened refl;
           sound = rw tree sound;
           sets = rw tree (λ i j li lj. (λ e. subst (λ (k : ℕ). Chain g i k) (sym (root i li) ∙ e ∙ root j lj) stop, λ c. ap (rootOf p) (no-chain c)));
           degrees = λ i l. word i (omega arith) ∙ sym (count-zero n (either g i) (λ k l. rw (empty i k, empty k i)));
           contacts-are = rw is-opened (sym (none-total n (λ i. count n (g i)) (λ i. count-zero n (g i) (λ k l. empty i k))));
-          marks = λ i l. ap (λ (k : ℕ). getD (opened n lent) k 0) (add-assoc (header + n) n i) ∙ word (n + i) (omega arith);
+          marks = λ i l. ap (λ (k : ℕ). getD (opened n bits lent) k 0) (add-assoc (header + n) n i) ∙ word (n + i) (omega arith);
           inside = λ i j e. absurd (false≢true (sym (empty i j) ∙ e));
         }

@@ -23,8 +23,8 @@ use Rattle.clusters.proofs.Holds.{Holds, contact-holds}
 abbrev pub with-row : ℕ → (ℕ → Bool) → ℕ → Bool
 with-row i acc k = eqb i k || acc k
 
-pub holds-same : {n : ℕ} {g h : ℕ → ℕ → Bool} {acc : ℕ → Bool} {t : List ℕ} → Holds n g acc t → ((a b : ℕ) → g a b ≡ h a b) → Holds n h acc t
-holds-same {n} {g} {h} {acc} {t} s e = subst (λ (f : ℕ → ℕ → Bool). Holds n f acc t) (fun-ext (λ a. fun-ext (λ b. e a b))) s
+pub holds-same : {n bits : ℕ} {g h : ℕ → ℕ → Bool} {acc : ℕ → Bool} {t : List ℕ} → Holds n bits g acc t → ((a b : ℕ) → g a b ≡ h a b) → Holds n bits h acc t
+holds-same {n} {bits} {g} {h} {acc} {t} s e = subst (λ (f : ℕ → ℕ → Bool). Holds n bits f acc t) (fun-ext (λ a. fun-ext (λ b. e a b))) s
 
 pub ltb-skip : (b j : ℕ) → (b ≡ j → ⊥) → ltb b j ≡ ltb b (suc j)
 ltb-skip b j n = go (decLt b j)
@@ -114,26 +114,27 @@ module _ (touch : ℕ → ℕ → Bool) (n : ℕ) where
         (λ m. rw (ne-eqb a i m)))
         (λ m. stage-old j a b (λ q. m (q .1)))
 
-    passes : (k j : ℕ) {t : List ℕ} → i < j → j + k ≡ n → Holds n (stage j) acc t → Holds n (stage n) acc (pass touch n i k j t)
+    passes : (k j : ℕ) {bits : ℕ} {t : List ℕ} → i < j → j + k ≡ n → Holds n bits (stage j) acc t → Holds n bits (stage n) acc (pass touch n i k j t)
     unfolding pass
     passes zero j l e s = holds-same s (λ a b. ap (λ (J : ℕ). stage J a b) (omega arith))
-    passes (suc k) j {t} l e s = passes k (suc j) (omega arith) (omega arith) (go (touch i j) refl)
+    passes (suc k) j {bits} {t} l e s = passes k (suc j) (omega arith) (omega arith) (go (touch i j) refl)
       where
-        go : (b : Bool) → touch i j ≡ b → Holds n (stage (suc j)) acc (cond b (contact n t i j) t)
+        go : (b : Bool) → touch i j ≡ b → Holds n bits (stage (suc j)) acc (cond b (contact n t i j) t)
         go true d = contact-holds s (stage-adds j l (omega arith) d)
         go false d = holds-same s (stage-skip j l (omega arith) d)
 
-    pub row-holds : {t : List ℕ} → i < n → acc i ≡ false → Holds n (graph touch n acc) acc t → Holds n (graph touch n (with-row i acc)) acc (pass touch n i (n - suc i) (suc i) t)
+    pub row-holds : {bits : ℕ} {t : List ℕ} → i < n → acc i ≡ false → Holds n bits (graph touch n acc) acc t → Holds n bits (graph touch n (with-row i acc)) acc (pass touch n i (n - suc i) (suc i) t)
     row-holds l e s = holds-same (passes (n - suc i) (suc i) (le-refl (suc i)) (omega arith) (holds-same s (stage-first e))) stage-last
 
 -- the mark of row i
-pub mark-holds : {n : ℕ} {g : ℕ → ℕ → Bool} {acc : ℕ → Bool} {t : List ℕ} (i : ℕ) → i < n → Holds n g acc t → Holds n g (with-row i acc) (set t (markAt n i) 1)
-mark-holds {n} {g} {acc} {t} i l s =
+pub mark-holds : {n bits : ℕ} {g : ℕ → ℕ → Bool} {acc : ℕ → Bool} {t : List ℕ} (i : ℕ) → i < n → Holds n bits g acc t → Holds n bits g (with-row i acc) (set t (markAt n i) 1)
+mark-holds {n} {bits} {g} {acc} {t} i l s =
     let long = s .long in
     let same : parents n (set t (markAt n i) 1) ≡ parents n t = ap (λ (k : ℕ). parents n (set t k 1)) (add-assoc (header + n) n i) ∙ parents-set n t (n + i) 1 in
     record {
       long = rw (length-set) long;
       own = getD-set-other t (markAt n i) 0 1 0 (λ e. omega arith) ∙ s .own;
+      cutoff = getD-set-other t (markAt n i) 2 1 0 (λ e. omega arith) ∙ s .cutoff;
       sound = rw same (s .sound);
       sets = rw same (s .sets);
       degrees = λ k h. getD-set-other t (markAt n i) (degreeAt n k) 1 0 (λ e. omega arith) ∙ s .degrees k h;
@@ -145,7 +146,7 @@ mark-holds {n} {g} {acc} {t} i l s =
       inside = s .inside;
     }
 
-pub row-table-holds : (touch : ℕ → ℕ → Bool) (n : ℕ) (acc : ℕ → Bool) (i : ℕ) {t : List ℕ} → i < n → acc i ≡ false
-    → Holds n (graph touch n acc) acc t → Holds n (graph touch n (with-row i acc)) (with-row i acc) (rowTable touch n i t)
+pub row-table-holds : (touch : ℕ → ℕ → Bool) (n : ℕ) (acc : ℕ → Bool) (i : ℕ) {bits : ℕ} {t : List ℕ} → i < n → acc i ≡ false
+    → Holds n bits (graph touch n acc) acc t → Holds n bits (graph touch n (with-row i acc)) (with-row i acc) (rowTable touch n i t)
 unfolding rowTable
 row-table-holds touch n acc i l e s = mark-holds i l (row-holds touch n acc i l e s)

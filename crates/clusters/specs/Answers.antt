@@ -2,20 +2,22 @@
 -- Definitions only. Assumes nothing.
 use mathlib.Core.Bool.{Bool, cond, not}
 use mathlib.Core.List.{List, [], _∷_, _++_}
-use Prim.Native.Nat.{ℕ, zero, suc, _+_, _-_}
+use Prim.Native.Nat.{ℕ, zero, suc, _-_}
 use lib.ListN.{length, set}
-use lib.Dec.{eqb, leb, ltb}
-use lib.Ieee.{Float}
+use lib.Dec.{eqb, ltb}
+use lib.Ieee.{Float, binary32, toBits}
 use Rattle.base.specs.declared.Answer.{Answer}
 use Rattle.base.specs.Refusals.{Refusal, refuse, firstRefusal, answerOf}
 use Rattle.base.specs.Limits.{maxCopies}
 use Rattle.base.specs.Tables.{unlessRefused}
+use Rattle.cell.specs.Reach.{reach}
 use Rattle.pick_lists.specs.Sound.{copies}
 use Rattle.pick_lists.specs.Input.{Input, inputRefusals}
 use Rattle.touch.specs.Touch.{copiesTouch}
 use Rattle.base.specs.Range.{allBelow}
 use Rattle.cluster_table.specs.declared.ClusterFractions.{ClusterFractions}
 use Rattle.cluster_table.specs.Table.{header, tableCopies, mark, markAt, words, opened, contact, soundTable}
+use Rattle.cluster_table.specs.Refusals.{rowTableRefusals}
 use Rattle.cluster_table.specs.Fractions.{tableFractions}
 use Rattle.clusters.specs.declared.Closing.{Closing}
 use Rattle.clusters.specs.declared.Closing.the-variants.{Fractions, Refused}
@@ -32,20 +34,21 @@ closeValues (Refused n) = []
 closeValues (Fractions largest contacted pair) = largest ∷ contacted ∷ pair ∷ []
 
 -- ---- Open
-unfoldable pub openRefusals : ℕ → List ℕ → List Refusal
-openRefusals n t = refuse 5 (ltb maxCopies n) ∷ refuse 7 (ltb (length t) (words n)) ∷ []
+unfoldable pub openRefusals : ℕ → Float → List ℕ → List Refusal
+unfolding reach
+openRefusals n k t = refuse 5 (ltb maxCopies n) ∷ reach k ∷ refuse 7 (ltb (length t) (words n)) ∷ []
 
-unfoldable pub openRefusal : ℕ → List ℕ → ℕ
+unfoldable pub openRefusal : ℕ → Float → List ℕ → ℕ
 unfolding openRefusals firstRefusal
-openRefusal n t = firstRefusal (openRefusals n t)
+openRefusal n k t = firstRefusal (openRefusals n k t)
 
--- what Open for n copies answers on a table
-abbrev pub openAnswer : ℕ → List ℕ → Answer
-openAnswer n t = answerOf (openRefusal n t)
+-- what Open for n copies with the cutoff k answers on a table
+abbrev pub openAnswer : ℕ → Float → List ℕ → Answer
+openAnswer n k t = answerOf (openRefusal n k t)
 
-unfoldable pub openAfter : ℕ → List ℕ → List ℕ
+unfoldable pub openAfter : ℕ → Float → List ℕ → List ℕ
 unfolding openRefusal opened
-openAfter n t = unlessRefused (openRefusal n t) (opened n t) t
+openAfter n k t = unlessRefused (openRefusal n k t) (opened n (toBits binary32 k) t) t
 
 -- ---- Row
 -- k copies from j on are tested against i, in order
@@ -59,23 +62,17 @@ unfoldable pub rowTable : (ℕ → ℕ → Bool) → ℕ → ℕ → List ℕ �
 unfolding pass
 rowTable touch n i t = set (pass touch n i (n - suc i) (suc i) t) (markAt n i) 1
 
--- 7, 9, 10 and 11: what Row i asks of a table of n copies
-unfoldable pub rowTableRefusals : ℕ → List ℕ → ℕ → List Refusal
-unfolding soundTable
-rowTableRefusals n t i =
-    refuse 7 (ltb (length t) (words n)) ∷ refuse 9 (not (soundTable n t)) ∷ refuse 10 (leb n i) ∷ refuse 11 (eqb (mark n t i) 1) ∷ []
-
-unfoldable pub rowRefusal : Input → List ℕ → ℕ → ℕ
+unfoldable pub rowRefusal : Input → Float → List ℕ → ℕ → ℕ
 unfolding inputRefusals rowTableRefusals firstRefusal
-rowRefusal f t i = firstRefusal (inputRefusals f ++ rowTableRefusals (copies (f .starts)) t i)
+rowRefusal f k t i = firstRefusal (inputRefusals f ++ rowTableRefusals (copies (f .starts)) k t i)
 
--- what Row i answers on a table
-abbrev pub rowAnswer : Input → List ℕ → ℕ → Answer
-rowAnswer f t i = answerOf (rowRefusal f t i)
+-- what Row i with the cutoff k answers on a table
+abbrev pub rowAnswer : Input → Float → List ℕ → ℕ → Answer
+rowAnswer f k t i = answerOf (rowRefusal f k t i)
 
-unfoldable pub rowAfter : Input → List ℕ → ℕ → List ℕ
+unfoldable pub rowAfter : Input → Float → List ℕ → ℕ → List ℕ
 unfolding rowRefusal rowTable copiesTouch
-rowAfter f t i = unlessRefused (rowRefusal f t i) (rowTable (copiesTouch f) (copies (f .starts)) i t) t
+rowAfter f k t i = unlessRefused (rowRefusal f k t i) (rowTable (copiesTouch f k) (copies (f .starts)) i t) t
 
 -- ---- Close: the table alone, with its own n
 unfoldable pub closeRefusals : List ℕ → List Refusal

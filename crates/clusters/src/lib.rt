@@ -7,6 +7,7 @@ ghost use Prim.Native.Nat.{_<_, _≤_};
 ghost use lib.ListN.{length};
 ghost use Rattle.base.specs.Entry.{old};
 ghost use Rattle.base.specs.Refusals.{firstRefusal};
+ghost use Rattle.cell.specs.Reach.{soundReach};
 ghost use Rattle.pick_lists.specs.Sound.{copies};
 ghost use Rattle.pick_lists.specs.Input.{inputRefusals, given};
 ghost use Rattle.touch.specs.Touch.{copiesTouch};
@@ -25,18 +26,21 @@ pub enum Closing {
 
 // ---- Open
 
-// Open: 5, 7, or a table of n copies.
-pub fn open(table: &mut [u32], n: usize) -> Answer
-    ensures answer { λ r. ⌜ r ≡ openAnswer n (old table) ⌝ }
-    ensures after { λ r. ⌜ now (table .exit) ≡ openAfter n (old table) ⌝ }
+// Open: 5, 16, 7 in this order, or a table of n copies. Its rows are for the cutoff, which it keeps.
+pub fn open(table: &mut [u32], n: usize, cutoff: f32) -> Answer
+    ensures answer { λ r. ⌜ r ≡ openAnswer n cutoff (old table) ⌝ }
+    ensures after { λ r. ⌜ now (table .exit) ≡ openAfter n cutoff (old table) ⌝ }
 {
     if n > MAX_COPIES {
         return Answer::Refused(5);
     }
+    if !cell::sound_reach(cutoff) {
+        return Answer::Refused(16);
+    }
     if table.len() < HEADER + 3 * n {
         return Answer::Refused(7);
     }
-    cluster_table::open_table(table, n);
+    cluster_table::open_table(table, n, numbers::class::to_bits32(cutoff));
     Answer::Accepted
 }
 
@@ -46,23 +50,24 @@ pub fn open(table: &mut [u32], n: usize) -> Answer
 // cell's gates settle most copies (crate `spans`).
 pub fn scan_row(
     cell: Cell,
+    cutoff: f32,
     solutes: &[f32],
     starts: &[u32],
     picks: &[u32],
     table: &mut [u32],
     i: usize,
 )
-    requires { ⌜ firstRefusal (inputRefusals (given cell (now solutes) [] (now starts) (now picks))) ≡ 0 ⌝ }
+    requires { ⌜ (firstRefusal (inputRefusals (given cell (now solutes) [] (now starts) (now picks))) ≡ 0) × (soundReach cutoff ≡ true) ⌝ }
     requires { ⌜ (words (copies (now starts)) ≤ length (now table)) × (soundTable (copies (now starts)) (now table) ≡ true) × (i < copies (now starts)) ⌝ }
-    ensures { λ _. ⌜ now (table .exit) ≡ rowTable (copiesTouch (given cell (old solutes) [] (old starts) (old picks))) (copies (old starts)) i (old table) ⌝ }
+    ensures { λ _. ⌜ now (table .exit) ≡ rowTable (copiesTouch (given cell (old solutes) [] (old starts) (old picks)) cutoff) (copies (old starts)) i (old table) ⌝ }
 {
     let n = starts.len() - 1;
-    let g = gates::gates_of(cell);
+    let g = gates::gates_of(cell, cutoff);
     let s = spans::span_of(solutes, pick_lists::copy_picks(starts, picks, i));
     // Copies up to i had their own rows for this pair.
     let mut j = spans::next_close(g, solutes, starts, picks, s, i + 1);
     while j < n {
-        if spans::row_touch(cell, g, solutes, starts, picks, i, j) {
+        if spans::row_touch(cell, cutoff, g, solutes, starts, picks, i, j) {
             cluster_table::add_contact(table, n, i, j);
         }
         j = spans::next_close(g, solutes, starts, picks, s, j + 1);
@@ -70,36 +75,28 @@ pub fn scan_row(
     cluster_table::set_mark(table, n, i);
 }
 
-// Row i: 1, 2, 3, 4, 15, 8, 7, 9, 10, 11 in this order, or the row's contacts.
+// Row i: 1, 2, 3, 4, 15, 8, 16, 7, 9, 17, 10, 11 in this order, or the row's contacts at the cutoff, which must be the table's own.
 pub fn row(
     cell: Cell,
+    cutoff: f32,
     solutes: &[f32],
     starts: &[u32],
     picks: &[u32],
     table: &mut [u32],
     i: usize,
 ) -> Answer
-    ensures answer { λ r. ⌜ r ≡ rowAnswer (given cell (old solutes) [] (old starts) (old picks)) (old table) i ⌝ }
-    ensures after { λ r. ⌜ now (table .exit) ≡ rowAfter (given cell (old solutes) [] (old starts) (old picks)) (old table) i ⌝ }
+    ensures answer { λ r. ⌜ r ≡ rowAnswer (given cell (old solutes) [] (old starts) (old picks)) cutoff (old table) i ⌝ }
+    ensures after { λ r. ⌜ now (table .exit) ≡ rowAfter (given cell (old solutes) [] (old starts) (old picks)) cutoff (old table) i ⌝ }
 {
-    let refusal = pick_lists::input_refusal(cell, solutes, &solutes[..0], starts, picks);
-    if refusal != 0 {
-        return Answer::Refused(refusal);
+    let input = pick_lists::input_refusal(cell, solutes, &solutes[..0], starts, picks);
+    if input != 0 {
+        return Answer::Refused(input);
     }
-    let n = starts.len() - 1;
-    if table.len() < HEADER + 3 * n {
-        return Answer::Refused(7);
+    let asked = cluster_table::row_refusal(table, starts.len() - 1, cutoff, i);
+    if asked != 0 {
+        return Answer::Refused(asked);
     }
-    if !cluster_table::is_sound(table, n) {
-        return Answer::Refused(9);
-    }
-    if i >= n {
-        return Answer::Refused(10);
-    }
-    if table[HEADER + n + n + i] == 1 {
-        return Answer::Refused(11);
-    }
-    scan_row(cell, solutes, starts, picks, table, i);
+    scan_row(cell, cutoff, solutes, starts, picks, table, i);
     Answer::Accepted
 }
 

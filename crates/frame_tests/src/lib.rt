@@ -1,5 +1,5 @@
-// What the whole frame tests, after 1, 2, 3 and 4, before it writes anything (docs/RULES.md, 'Whole frame'): blank, then 5, 6 and 7. The order of all
-// its refusals is crate `mixing`'s.
+// What the whole frame tests, after 1, 2, 3 and 4, before it writes anything (docs/RULES.md, 'Whole frame'): blank, then 5, 6, 16 and 7. The order of
+// all its refusals is crate `mixing`'s.
 ghost use mathlib.Core.Path.{_≡_};
 ghost use Rattle.base.specs.Entry.{old};
 ghost use Rattle.base.specs.Refusals.{firstRefusal};
@@ -17,18 +17,19 @@ pub fn is_blank(cell: Cell, solutes: &[f32], waters: &[f32], copies: usize, fini
         | ((solutes.len() == 0) | ((waters.len() == 0) | ((copies == 0) | (finite == 0))))
 }
 
-// The first of 5, 6, 7 that holds, or 0: for so many copies, picks and finite waters, in tables of these lengths.
+// The first of 5, 6, 16, 7 that holds, or 0: for so many copies, picks and finite waters, a cutoff, and tables of these lengths.
 pub fn size_refusal(
     copies: usize,
     picked: usize,
     finite: usize,
+    cutoff: f32,
     starts: usize,
     picks: usize,
     clusters: usize,
     center_order: usize,
     water_order: usize,
 ) -> u32
-    ensures { λ r. ⌜ r ≡ firstRefusal (sizeRefusals copies picked finite starts picks clusters «center_order» «water_order») ⌝ }
+    ensures { λ r. ⌜ r ≡ firstRefusal (sizeRefusals copies picked finite cutoff starts picks clusters «center_order» «water_order») ⌝ }
 {
     if copies > MAX_COPIES {
         return 5;
@@ -36,9 +37,13 @@ pub fn size_refusal(
     if picked > MAX_PICKS {
         return 6;
     }
-    if ((starts < copies + 1) | (picks < picked))
-        | ((clusters < HEADER + 3 * copies) | ((center_order < copies) | (water_order < finite)))
-    {
+    let reaches = cell::sound_reach(cutoff);
+    let short = ((starts < copies + 1) | (picks < picked))
+        | ((clusters < HEADER + 3 * copies) | ((center_order < copies) | (water_order < finite)));
+    if !reaches {
+        return 16;
+    }
+    if short {
         return 7;
     }
     0

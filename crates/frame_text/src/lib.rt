@@ -55,17 +55,18 @@ fn box_room() -> [f32; 12288]
     [0f32; 12288]
 }
 
-// The text of a frame, worked out in tables of the program's sizes: 7, or the bytes written.
+// The text of a frame, worked out at the cutoff in tables of the program's sizes: 7, or the bytes written.
 pub fn put_frame(
     cell: Cell,
+    cutoff: f32,
     solutes: &[f32],
     per: usize,
     indices: &[u32],
     waters: &[f32],
     out: &mut [u8],
 ) -> Listed
-    ensures answer { λ r. ⌜ r ≡ textAnswer false (frameText (frameOf cell (old solutes) per (old indices) (old waters)) programTables) (old out) ⌝ }
-    ensures after { λ r. ⌜ now (out .exit) ≡ textAfter false (frameText (frameOf cell (old solutes) per (old indices) (old waters)) programTables) (old out) ⌝ }
+    ensures answer { λ r. ⌜ r ≡ textAnswer false (frameText (frameOf cell cutoff (old solutes) per (old indices) (old waters)) programTables) (old out) ⌝ }
+    ensures after { λ r. ⌜ now (out .exit) ≡ textAfter false (frameText (frameOf cell cutoff (old solutes) per (old indices) (old waters)) programTables) (old out) ⌝ }
 {
     let mut starts = start_room();
     let mut picks = word_room();
@@ -77,6 +78,7 @@ pub fn put_frame(
     let mut leaves = word_room();
     match mixing::frame(
         cell,
+        cutoff,
         solutes,
         per,
         indices,

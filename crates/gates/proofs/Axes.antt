@@ -17,6 +17,7 @@ use Rattle.floats.proofs.Monotone.{sub-mono, mul-mono-left}
 use Rattle.cell.specs.declared.Cell.{Cell}
 use Rattle.cell.specs.declared.Vec3.{Vec3}
 use Rattle.cell.specs.Cell.{imageAxis, validAxis, valid, extentOf, pointAt, finitePoint}
+use Rattle.cell.specs.Reach.{soundReach}
 use Rattle.frame_limits.specs.Limits.{boundOver, anyOver, maxCoordinate, frameRefusals}
 use Rattle.base.specs.Refusals.{firstRefusal}
 use Rattle.cell.proofs.Finite.{valid-axes, Above, Side, Around, image-axis-within}
@@ -79,29 +80,31 @@ valid-plain (inf s) v = absurd (true≢false (sym v))
 valid-plain (fin true n d) v = absurd (true≢false (sym v))
 valid-plain (fin false n d) v = tt
 
-pub record Tested (c : Cell) (xs : List Float) : Type 0 where
+pub record Tested (c : Cell) (k : Float) (xs : List Float) : Type 0 where
   pub bounds : boundOver c ≡ false
   pub is-valid : valid c ≡ true
   pub within : anyOver maxCoordinate xs ≡ false
+  pub reach : soundReach k ≡ true
 
-pub tested-of : (c : Cell) (xs : List Float) → boundOver c ≡ false → valid c ≡ true → anyOver maxCoordinate xs ≡ false → tested c xs ≡ true
+pub tested-of : (c : Cell) (k : Float) (xs : List Float) → boundOver c ≡ false → valid c ≡ true → anyOver maxCoordinate xs ≡ false → soundReach k ≡ true → tested c k xs ≡ true
 unfolding tested
-tested-of c xs b v w = rw (b, v, w)
+tested-of c k xs b v w r = rw (b, v, w, r)
 
--- a frame that none of 1, 2, 3, 4 and 15 refuses
-pub tested-frame : (c : Cell) (xs waters : List Float) → firstRefusal (frameRefusals c xs waters) ≡ 0 → tested c xs ≡ true
-tested-frame c xs waters h = let a = frame-none c xs waters h in tested-of c xs (a .bounds-within) (a .cell-valid) (a .solutes-within)
+-- a frame that none of 1, 2, 3, 4 and 15 refuses, and a cutoff that 16 does not
+pub tested-frame : (c : Cell) (k : Float) (xs waters : List Float) → firstRefusal (frameRefusals c xs waters) ≡ 0 → soundReach k ≡ true → tested c k xs ≡ true
+tested-frame c k xs waters h r = let a = frame-none c xs waters h in tested-of c k xs (a .bounds-within) (a .cell-valid) (a .solutes-within) r
 
-pub tested-is : (c : Cell) (xs : List Float) → tested c xs ≡ true → Tested c xs
+pub tested-is : (c : Cell) (k : Float) (xs : List Float) → tested c k xs ≡ true → Tested c k xs
 unfolding tested
-tested-is c xs h =
-    let p = both (not (boundOver c)) (valid c && not (anyOver maxCoordinate xs)) h in
-    let q = both (valid c) (not (anyOver maxCoordinate xs)) (p .1) in
-    record { bounds = not-true (boundOver c) (p .0); is-valid = q .0; within = not-true (anyOver maxCoordinate xs) (q .1) }
+tested-is c k xs h =
+    let p = both (not (boundOver c)) (valid c && (not (anyOver maxCoordinate xs) && soundReach k)) h in
+    let q = both (valid c) (not (anyOver maxCoordinate xs) && soundReach k) (p .1) in
+    let r = both (not (anyOver maxCoordinate xs)) (soundReach k) (q .1) in
+    record { bounds = not-true (boundOver c) (p .0); is-valid = q .0; within = not-true (anyOver maxCoordinate xs) (r .0); reach = r .1 }
 
-pub tested-axes : (c : Cell) (xs : List Float) → tested c xs ≡ true → Axes (extentOf c)
-tested-axes c xs h =
-    let t = tested-is c xs h in
+pub tested-axes : (c : Cell) (k : Float) (xs : List Float) → tested c k xs ≡ true → Axes (extentOf c)
+tested-axes c k xs h =
+    let t = tested-is c k xs h in
     let e = extentOf c in
     let s = limited-cell c (t .bounds) (t .is-valid) .sides in
     let v = valid-axes c (t .is-valid) in
@@ -111,5 +114,5 @@ tested-axes c xs h =
       on-z = record { side = s .on-z; plus = valid-plain (e .z) (v .2) };
     }
 
-pub tested-atom : (c : Cell) (xs : List Float) → tested c xs ≡ true → (p : ℕ) → finitePoint (pointAt xs p) ≡ true → Around 20 (pointAt xs p)
-tested-atom c xs h = atom-around xs (tested-is c xs h .within)
+pub tested-atom : (c : Cell) (k : Float) (xs : List Float) → tested c k xs ≡ true → (p : ℕ) → finitePoint (pointAt xs p) ≡ true → Around 20 (pointAt xs p)
+tested-atom c k xs h = atom-around xs (tested-is c k xs h .within)

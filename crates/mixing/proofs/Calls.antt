@@ -13,7 +13,7 @@ use Rattle.report.specs.Report.{reportRoom, reportRefusal, answerBy, reportAnsw
 use Rattle.mixing.specs.Frame.{Frame, FrameTables, scanInput, treeInput, mixedAnswer}
 use Rattle.mixing.specs.Calls.{AnswersAsCalls}
 use Rattle.mixing.proofs.Outcomes.{Passed, roomNumber}
-use Rattle.mixing.proofs.Tested.{within-limits, valid-cell, fine, cores-fit, lists-sound, selects}
+use Rattle.mixing.proofs.Tested.{within-limits, room, valid-cell, fine, cores-fit, lists-sound, selects}
 use Rattle.mixing.proofs.Answered.{answered}
 
 module _ (f : Frame) (t : FrameTables) (p : Passed f t) where
@@ -41,7 +41,7 @@ as-calls f t copies picks largest contacted pair dispersion nodes depth leaves d
     let p = a .passed in
     record {
       select = sym (selects f t p .0) ∙ cc (a .is);
-      close = scanned-closes (scanInput f) (t .clusters) (fine f t p) (cores-fit f t p .0 .1) ∙ cc (a .is);
+      close = scanned-closes (scanInput f) (f .cutoff) (t .clusters) (fine f t p) (room f t p .reaches) (cores-fit f t p .0 .1) ∙ cc (a .is);
       disperse = sym (dispersion-answered (scanInput f) 0 (sym (fine f t p)) refl dispersion (cc (a .is)));
       report = rw (report-refuses f t p, a .unrefused) (cc (a .is));
     }

@@ -10,7 +10,7 @@ use Rattle.mixing.specs.Inner.{withReport}
 use Rattle.mixing.specs.Frame.{Frame, FrameTables, kept, pickNumbers, scanInput, treeInput, refusedOr, mixedAnswer}
 
 pub cores-answer : (f : Frame) (t : FrameTables) (r : ℕ)
-    → withReport (length (kept f)) (length (pickNumbers f)) (tableFractions (scanned (scanInput f) (t .clusters))) (dispersionOf (scanInput f)) (answerBy r (treeInput f))
+    → withReport (length (kept f)) (length (pickNumbers f)) (tableFractions (scanned (scanInput f) (f .cutoff) (t .clusters))) (dispersionOf (scanInput f)) (answerBy r (treeInput f))
     ≡ refusedOr r (mixedAnswer f t)
 unfolding mixedAnswer answerBy
 cores-answer f t zero = refl

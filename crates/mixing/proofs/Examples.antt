@@ -21,4 +21,4 @@ pub not-blank-too : ((f : Frame) (t : FrameTables) → frameRefusal f t ≡ 0 �
 unfolding frameRefusal limited limitRefusals lengths counts bounds coordinates ragged long longIndices boundOver anyOver exceeds firstRefusal blankHolds isBlank kept pickNumbers keptCopies copiesFrom chunks picked indexed finiteAtoms picksOf finiteAtom finiteWaters valid validAxis finitePoint extentOf sameNumbers minImage imageAxis minus pointAt opposite roundOf ofBits neg sub mul div eq lt
 not-blank-too h =
     let zero = ofBits binary32 0 in
-    false≢true (h (frameOf (upTo 0) (zero ∷ zero ∷ zero ∷ []) 1 [] []) (frameTables [] [] [] [] [] [] [] []) refl .images 0 0 (lit< tt) (lit< tt))
+    false≢true (h (frameOf (upTo 0) zero (zero ∷ zero ∷ zero ∷ []) 1 [] []) (frameTables [] [] [] [] [] [] [] []) refl .images 0 0 (lit< tt) (lit< tt))

@@ -14,7 +14,8 @@ use Rattle.pick_lists.specs.Input.{Input, inputRefusals}
 use Rattle.pick_lists.proofs.InputRefusals.{input-numbered}
 use Rattle.touch.specs.Mirror.{Mirrored}
 use Rattle.touch.proofs.Mirror.{mirror-law}
-use Rattle.clusters.specs.Answers.{rowTable, rowTableRefusals, rowRefusal}
+use Rattle.cluster_table.specs.Refusals.{rowTableRefusals}
+use Rattle.clusters.specs.Answers.{rowTable, rowRefusal}
 use Rattle.centers.specs.Centers.{centersRefusal}
 use Rattle.dispersion.specs.Dispersion.{dispersionRefusal}
 use Rattle.octree.specs.Tree.{TreeTables, roomRefusal}
@@ -38,11 +39,11 @@ pub mirror-in-calls : MirrorInCalls
 unfolding rowRefusal centersRefusal dispersionRefusal treeRefusal reportRefusal
 mirror-in-calls =
     record {
-      row = λ f t i h. after-input f (rowTableRefusals (copies (f .starts)) t i) h;
+      row = λ f k t i h. after-input f (rowTableRefusals (copies (f .starts)) k t i) h;
       centers = λ f t h. after-input f (refuse 7 (ltb (length t) (copies (f .starts) * 3)) ∷ []) h;
       dispersion = λ f h. mirror-law .input f h;
       tree = λ f t h. in-tree _ f t h;
       report = λ f t leaves h. in-tree _ f t h;
       frame = λ f t b h. mirror-law .input (scanInput f) (fine f t (passes f t b h));
-      rows = λ f t i. ap (λ (touch : ℕ → ℕ → Bool). rowTable touch (copies (f .starts)) i t) (mirror-law .search f);
+      rows = λ f k t i. ap (λ (touch : ℕ → ℕ → Bool). rowTable touch (copies (f .starts)) i t) (mirror-law .search f k);
     }

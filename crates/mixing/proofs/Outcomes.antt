@@ -14,6 +14,7 @@ use Rattle.tree.specs.Tree.{frameTree}
 use Rattle.tree.proofs.TreeRefusals.{without, first-without}
 use Rattle.report.specs.Report.{reportRoom}
 use Rattle.mixing.specs.declared.FrameAnswer.the-variants.{Refused, Blank}
+use Rattle.cell.specs.Reach.{reach}
 use Rattle.frame_tests.specs.Tests.{sizeRefusals}
 use Rattle.mixing.specs.Frame.{Frame, FrameTables, treeInput, sized, tableRefusals, limited, blankHolds, frameRefusal, frameBlank, refusedOr, mixedAnswer, frameAnswer, worked, frameAfter}
 
@@ -70,18 +71,18 @@ module _ (f : Frame) (t : FrameTables) where
     unfolding frameAnswer frameAfter
     outcome-blank e = rw (blank-is, e) (refl, refl)
 
-    -- ---- 5, 6, 7
+    -- ---- 5, 6, 16, 7
     module _ (some : blankHolds f ≡ false) where
       number-tables : frameRefusal f t ≡ firstRefusal (tableRefusals f t)
       unfolding rest
       number-tables = number-rest within ∙ rw some
 
       size-numbered : numbered (sized f t) ≡ true
-      unfolding numbered sized sizeRefusals
+      unfolding numbered sized sizeRefusals reach
       size-numbered = refl
 
       size-not-13 : firstRefusal (sized f t) ≡ 13 → ⊥
-      unfolding without sized sizeRefusals
+      unfolding without sized sizeRefusals reach
       size-not-13 e = first-without 13 (sized f t) refl (λ z. omega arith) e
 
       pub number-size : (firstRefusal (sized f t) ≡ 0 → ⊥) → frameRefusal f t ≡ firstRefusal (sized f t)

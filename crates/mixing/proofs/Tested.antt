@@ -10,6 +10,7 @@ use lib.Seq.{take-at, take-append-seam}
 use borrow.Author.Tests.{ltb-false, not-false}
 use Rattle.base.specs.Limits.{maxAtoms, maxIndices, maxCopies, maxPicks}
 use Rattle.cell.specs.Cell.{valid}
+use Rattle.cell.specs.Reach.{reach, soundReach}
 use Rattle.base.specs.Refusals.{refuse, firstRefusal}
 use Rattle.frame_limits.specs.Limits.{long, longIndices}
 use Rattle.base.specs.Tables.{over}
@@ -51,10 +52,11 @@ module _ (f : Frame) (none : firstRefusal (limited f) ≡ 0) where
   unfolding longIndices
   indices-few = ltb-false maxIndices (length (f .indices)) (within-limits .indices-few)
 
--- ---- what 5, 6 and 7 establish
+-- ---- what 5, 6, 16 and 7 establish
 pub record Room (f : Frame) (t : FrameTables) : Type 0 where
   pub few : length (kept f) ≤ maxCopies
   pub light : length (pickNumbers f) ≤ maxPicks
+  pub reaches : soundReach (f .cutoff) ≡ true
   -- as the test has it
   pub lists-long : (ltb (length (t .starts)) (length (kept f) + 1) || ltb (length (t .picks)) (length (pickNumbers f))) ≡ false
   pub clusters-fit : words (length (kept f)) ≤ length (t .clusters)
@@ -67,26 +69,28 @@ coresLeave f t starts picks r =
     record {
       starts = over (startList f) (t .starts);
       picks = over (pickNumbers f) (t .picks);
-      clusters = scanned (given (f .cell) (f .solutes) [] starts picks) (t .clusters);
+      clusters = scanned (given (f .cell) (f .solutes) [] starts picks) (f .cutoff) (t .clusters);
       tree = inputAfter r g (t .tree);
       leaves = leavesBy r g (t .leaves);
     }
 
 module _ (f : Frame) (t : FrameTables) (p : Passed f t) where
   pub room : Room f t
-  unfolding sized sizeRefusals
+  unfolding sized sizeRefusals reach
   room =
       let lists = ltb (length (t .starts)) (length (kept f) + 1) || ltb (length (t .picks)) (length (pickNumbers f)) in
       let orders = ltb (length (t .tree .centerOrder)) (length (kept f)) || ltb (length (t .tree .waterOrder)) (finiteWaters (f .waters)) in
       let seven = refuse 7 (lists || (ltb (length (t .clusters)) (words (length (kept f))) || orders)) in
-      let n5 = first-none (refuse 5 (ltb maxCopies (length (kept f)))) (refuse 6 (ltb maxPicks (length (pickNumbers f))) ∷ seven ∷ []) (λ h. omega arith) (p .fits) in
-      let n6 = first-none (refuse 6 (ltb maxPicks (length (pickNumbers f)))) (seven ∷ []) (λ h. omega arith) (n5 .1) in
-      let n7 = first-none seven [] (λ h. omega arith) (n6 .1) in
+      let n5 = first-none (refuse 5 (ltb maxCopies (length (kept f)))) (refuse 6 (ltb maxPicks (length (pickNumbers f))) ∷ reach (f .cutoff) ∷ seven ∷ []) (λ h. omega arith) (p .fits) in
+      let n6 = first-none (refuse 6 (ltb maxPicks (length (pickNumbers f)))) (reach (f .cutoff) ∷ seven ∷ []) (λ h. omega arith) (n5 .1) in
+      let n16 = first-none (reach (f .cutoff)) (seven ∷ []) (λ h. omega arith) (n6 .1) in
+      let n7 = first-none seven [] (λ h. omega arith) (n16 .1) in
       let e = neither lists _ (n7 .0) in
       let g = neither (ltb (length (t .clusters)) (words (length (kept f)))) orders (e .1) in
       record {
         few = ltb-false maxCopies (length (kept f)) (n5 .0);
         light = ltb-false maxPicks (length (pickNumbers f)) (n6 .0);
+        reaches = not-false (soundReach (f .cutoff)) (n16 .0);
         lists-long = e .0;
         clusters-fit = ltb-false (length (t .clusters)) (words (length (kept f))) (g .0);
         orders-fit = both-within (length (t .tree .centerOrder)) (length (kept f)) (length (t .tree .waterOrder)) (finiteWaters (f .waters)) (g .1);
@@ -119,11 +123,11 @@ module _ (f : Frame) (t : FrameTables) (p : Passed f t) where
   lists-sound = input-accepted (scanInput f) fine .1
 
   -- the scanned table, for as many copies as there are
-  pub table-sound : (n : ℕ) (table : List ℕ) → n ≡ length (kept f) → table ≡ scanned (scanInput f) (t .clusters)
+  pub table-sound : (n : ℕ) (table : List ℕ) → n ≡ length (kept f) → table ≡ scanned (scanInput f) (f .cutoff) (t .clusters)
       → ((n ≤ maxCopies) × (words n ≤ length table)) × (soundTable n table ≡ true)
   table-sound n table e h =
-      let table-long = scanned-long (scanInput f) (t .clusters) fine (cores-fit .0 .1) in
-      let table-fine = scanned-sound (scanInput f) (t .clusters) fine (cores-fit .0 .1) in
+      let table-long = scanned-long (scanInput f) (f .cutoff) (t .clusters) fine (room .reaches) (cores-fit .0 .1) in
+      let table-fine = scanned-sound (scanInput f) (f .cutoff) (t .clusters) fine (room .reaches) (cores-fit .0 .1) in
       rw (e, h) ((room .few, rw copies-are at table-long), rw copies-are at table-fine)
 
   -- ---- what the cores leave is what the frame leaves

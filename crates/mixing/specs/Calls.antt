@@ -18,7 +18,7 @@ use Rattle.mixing.specs.Frame.{Frame, FrameTables, scanInput, treeInput,
 -- what the calls answer on the frame: Select on its lists, and the others on the pick lists and the scanned table
 pub record Calls (f : Frame) (t : FrameTables) (copies picks : ℕ) (largest contacted pair dispersion : Float) (nodes depth leaves dry : ℕ) : Type 0 where
   pub select : selectAnswer (f .solutes) (f .per) (f .indices) (t .starts) (t .picks) ≡ Kept copies picks
-  pub close : closeAnswer (scanned (scanInput f) (t .clusters)) ≡ Fractions largest contacted pair
+  pub close : closeAnswer (scanned (scanInput f) (f .cutoff) (t .clusters)) ≡ Fractions largest contacted pair
   pub disperse : dispersionAnswer (scanInput f) ≡ Score dispersion
   pub report : reportAnswer (treeInput f) (t .tree) (t .leaves) ≡ Leaves nodes depth leaves dry
 

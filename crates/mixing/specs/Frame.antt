@@ -1,4 +1,4 @@
--- docs/RULES.md, 'Whole frame': 1, 2, 3, 4; then blank; then 5, 6, 7, 13; otherwise Select, Open, the rows in rising order, Close,
+-- docs/RULES.md, 'Whole frame': 1, 2, 3, 4; then blank; then 5, 6, 16, 7, 13; otherwise Select, Open, the rows in rising order, Close,
 -- Dispersion and Report, with their answers and tables. Definitions only. Assumes nothing.
 use Prim.Native.Nat.{ℕ}
 use mathlib.Core.Bool.{Bool, cond, _&&_}
@@ -28,14 +28,16 @@ use Rattle.mixing.specs.declared.FrameAnswer.the-variants.{Refused, Blan
 -- ---- a frame, and the tables lent for it
 pub record Frame : Type 0 where
   pub cell : Cell
+  -- of contacts
+  pub cutoff : Float
   pub solutes : List Float
   -- atoms per copy
   pub per : ℕ
   pub indices : List ℕ
   pub waters : List Float
 
-abbrev pub frameOf : Cell → List Float → ℕ → List ℕ → List Float → Frame
-frameOf c solutes per indices waters = record { cell = c; solutes = solutes; per = per; indices = indices; waters = waters }
+abbrev pub frameOf : Cell → Float → List Float → ℕ → List ℕ → List Float → Frame
+frameOf c k solutes per indices waters = record { cell = c; cutoff = k; solutes = solutes; per = per; indices = indices; waters = waters }
 
 pub record FrameTables : Type 0 where
   pub starts : List ℕ
@@ -66,14 +68,14 @@ scanInput f = given (f .cell) (f .solutes) [] (startList f) (pickNumbers f)
 abbrev pub treeInput : Frame → Input
 treeInput f = given (f .cell) (f .solutes) (f .waters) (startList f) (pickNumbers f)
 
--- ---- refusals (blank and 5, 6, 7: `frame_tests`)
--- 5, 6, 7 for the kept copies, their picks and the finite waters
+-- ---- refusals (blank and 5, 6, 16, 7: `frame_tests`)
+-- 5, 6, 16, 7 for the kept copies, their picks and the finite waters
 unfoldable pub sized : Frame → FrameTables → List Refusal
 sized f t =
-    sizeRefusals (length (kept f)) (length (pickNumbers f)) (finiteWaters (f .waters))
+    sizeRefusals (length (kept f)) (length (pickNumbers f)) (finiteWaters (f .waters)) (f .cutoff)
     (length (t .starts)) (length (t .picks)) (length (t .clusters)) (length (t .tree .centerOrder)) (length (t .tree .waterOrder))
 
--- 5, 6, 7, 13
+-- 5, 6, 16, 7, 13
 unfoldable pub tableRefusals : Frame → FrameTables → List Refusal
 tableRefusals f t = sized f t ++ (roomRefusal (reportRoom (t .tree) (t .leaves)) (frameTree (treeInput f)) ∷ [])
 
@@ -108,7 +110,7 @@ refusedOr r x = unlessRefused r x (Refused r)
 -- dispersion, and of the tree its nodes, greatest depth, reported leaves and dry leaves
 unfoldable pub mixedAnswer : Frame → FrameTables → FrameAnswer
 mixedAnswer f t =
-    let fs = tableFractions (scanned (scanInput f) (t .clusters)) in
+    let fs = tableFractions (scanned (scanInput f) (f .cutoff) (t .clusters)) in
     let vs = frameTree (treeInput f) .nodes in
     Mixed (length (kept f)) (length (pickNumbers f)) (fs .largest) (fs .contacted) (fs .pair) (dispersionOf (scanInput f))
     (length vs) (deepest vs) (reportedLeaves vs) (dryLeaves vs)
@@ -124,7 +126,7 @@ worked r f t =
     record {
       starts = startsAfter (f .solutes) (f .per) (f .indices) (t .starts) (t .picks);
       picks = picksAfter (f .solutes) (f .per) (f .indices) (t .starts) (t .picks);
-      clusters = scanned (scanInput f) (t .clusters);
+      clusters = scanned (scanInput f) (f .cutoff) (t .clusters);
       tree = inputAfter r (treeInput f) (t .tree);
       leaves = leavesBy r (treeInput f) (t .leaves);
     }

@@ -19,11 +19,11 @@ use Rattle.mixing.specs.Frame.{Frame, FrameTables, scanInput, frameRefus
 
 pub record MirrorInCalls : Type 0 where
   -- none of the call's refusals holds; the whole frame is not blank either, and the law is for the pick lists that it selects
-  pub row : (f : Input) (t : List ℕ) (i : ℕ) → rowRefusal f t i ≡ 0 → Mirrored f
+  pub row : (f : Input) (k : Float) (t : List ℕ) (i : ℕ) → rowRefusal f k t i ≡ 0 → Mirrored f
   pub centers : (f : Input) (t : List Float) → centersRefusal f t ≡ 0 → Mirrored f
   pub dispersion : (f : Input) → dispersionRefusal f ≡ 0 → Mirrored f
   pub tree : (f : Input) (t : TreeTables) → treeRefusal f t ≡ 0 → Mirrored f
   pub report : (f : Input) (t : TreeTables) (leaves : List ℕ) → reportRefusal f t leaves ≡ 0 → Mirrored f
   pub frame : (f : Frame) (t : FrameTables) → frameBlank f ≡ false → frameRefusal f t ≡ 0 → Mirrored (scanInput f)
   -- a row whose search takes every separation the other way round leaves the same table, and Close answers by the table alone
-  pub rows : (f : Input) (t : List ℕ) (i : ℕ) → rowTable (touchReversed f) (copies (f .starts)) i t ≡ rowTable (copiesTouch f) (copies (f .starts)) i t
+  pub rows : (f : Input) (k : Float) (t : List ℕ) (i : ℕ) → rowTable (touchReversed f k) (copies (f .starts)) i t ≡ rowTable (copiesTouch f k) (copies (f .starts)) i t

@@ -54,9 +54,10 @@ fn with_report(
     }
 }
 
-// The whole frame: 1, 2, 3, 4, then blank, then 5, 6, 7, 13 in this order, or every answer. `per` is the atoms per copy.
+// The whole frame: 1, 2, 3, 4, then blank, then 5, 6, 16, 7, 13 in this order, or every answer. Contacts are at the cutoff; `per` is the atoms per copy.
 pub fn frame(
     cell: Cell,
+    cutoff: f32,
     solutes: &[f32],
     per: usize,
     indices: &[u32],
@@ -70,9 +71,9 @@ pub fn frame(
     boxes: &mut [f32],
     leaves: &mut [u32],
 ) -> FrameAnswer
-    ensures answer { λ r. ⌜ r ≡ frameAnswer (frameOf cell (old solutes) per (old indices) (old waters)) (frameTables (old starts) (old picks) (old clusters) (old «center_order») (old «water_order») (old records) (old boxes) (old leaves)) ⌝ }
+    ensures answer { λ r. ⌜ r ≡ frameAnswer (frameOf cell cutoff (old solutes) per (old indices) (old waters)) (frameTables (old starts) (old picks) (old clusters) (old «center_order») (old «water_order») (old records) (old boxes) (old leaves)) ⌝ }
     ensures after { λ r. ⌜ frameTables (now (starts .exit)) (now (picks .exit)) (now (clusters .exit)) (now («center_order» .exit)) (now («water_order» .exit)) (now (records .exit)) (now (boxes .exit)) (now (leaves .exit))
-        ≡ frameAfter (frameOf cell (old solutes) per (old indices) (old waters)) (frameTables (old starts) (old picks) (old clusters) (old «center_order») (old «water_order») (old records) (old boxes) (old leaves)) ⌝ }
+        ≡ frameAfter (frameOf cell cutoff (old solutes) per (old indices) (old waters)) (frameTables (old starts) (old picks) (old clusters) (old «center_order») (old «water_order») (old records) (old boxes) (old leaves)) ⌝ }
 {
     let refusal = frame_limits::limit_refusal(cell, solutes, waters, indices);
     if refusal != 0 {
@@ -88,6 +89,7 @@ pub fn frame(
         n.copies,
         n.picks,
         finite,
+        cutoff,
         starts.len(),
         picks.len(),
         clusters.len(),
@@ -102,7 +104,7 @@ pub fn frame(
     // The lent tables may be longer than the pick lists.
     let firsts = &starts[..n.copies + 1];
     let picked = &picks[..n.picks];
-    scan::scan_all(cell, solutes, firsts, picked, clusters);
+    scan::scan_all(cell, cutoff, solutes, firsts, picked, clusters);
     let f = cluster_table::fractions(clusters, n.copies);
     let dispersion = dispersion::dispersion_of(cell, solutes, firsts, picked);
     // Last: where it answers 13, the scan and Select have written already, as the rules have it.

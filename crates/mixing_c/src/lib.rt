@@ -37,11 +37,11 @@ pub extern "C" fn baithrum_select(
 
 // Open has no answer but its number.
 #[no_mangle]
-pub extern "C" fn baithrum_open(table: &mut [u32], n: usize) -> u32
-    ensures number { λ r. ⌜ r ≡ openRefusal n (old table) ⌝ }
-    ensures after { λ r. ⌜ now (table .exit) ≡ openAfter n (old table) ⌝ }
+pub extern "C" fn baithrum_open(table: &mut [u32], n: usize, cutoff: f32) -> u32
+    ensures number { λ r. ⌜ r ≡ openRefusal n cutoff (old table) ⌝ }
+    ensures after { λ r. ⌜ now (table .exit) ≡ openAfter n cutoff (old table) ⌝ }
 {
-    answers::number(clusters::open(table, n))
+    answers::number(clusters::open(table, n, cutoff))
 }
 
 // Row has no answer but its number.
@@ -53,17 +53,19 @@ pub extern "C" fn baithrum_row(
     hx: f32,
     hy: f32,
     hz: f32,
+    cutoff: f32,
     solutes: &[f32],
     starts: &[u32],
     picks: &[u32],
     table: &mut [u32],
     i: usize,
 ) -> u32
-    ensures number { λ r. ⌜ r ≡ rowRefusal (given (cellOf lx ly lz hx hy hz) (old solutes) [] (old starts) (old picks)) (old table) i ⌝ }
-    ensures after { λ r. ⌜ now (table .exit) ≡ rowAfter (given (cellOf lx ly lz hx hy hz) (old solutes) [] (old starts) (old picks)) (old table) i ⌝ }
+    ensures number { λ r. ⌜ r ≡ rowRefusal (given (cellOf lx ly lz hx hy hz) (old solutes) [] (old starts) (old picks)) cutoff (old table) i ⌝ }
+    ensures after { λ r. ⌜ now (table .exit) ≡ rowAfter (given (cellOf lx ly lz hx hy hz) (old solutes) [] (old starts) (old picks)) cutoff (old table) i ⌝ }
 {
     answers::number(clusters::row(
         answers::cell(lx, ly, lz, hx, hy, hz),
+        cutoff,
         solutes,
         starts,
         picks,
@@ -228,6 +230,7 @@ pub extern "C" fn baithrum_frame(
     hx: f32,
     hy: f32,
     hz: f32,
+    cutoff: f32,
     solutes: &[f32],
     per: usize,
     indices: &[u32],
@@ -242,14 +245,15 @@ pub extern "C" fn baithrum_frame(
     leaves: &mut [u32],
     answers: &mut [u32],
 ) -> u32
-    ensures number { λ r. ⌜ r ≡ frameRefusal (frameOf (cellOf lx ly lz hx hy hz) (old solutes) per (old indices) (old waters)) (frameTables (old starts) (old picks) (old clusters) (old «center_order») (old «water_order») (old records) (old boxes) (old leaves)) ⌝ }
+    ensures number { λ r. ⌜ r ≡ frameRefusal (frameOf (cellOf lx ly lz hx hy hz) cutoff (old solutes) per (old indices) (old waters)) (frameTables (old starts) (old picks) (old clusters) (old «center_order») (old «water_order») (old records) (old boxes) (old leaves)) ⌝ }
     ensures after { λ r. ⌜ frameTables (now (starts .exit)) (now (picks .exit)) (now (clusters .exit)) (now («center_order» .exit)) (now («water_order» .exit)) (now (records .exit)) (now (boxes .exit)) (now (leaves .exit))
-        ≡ frameAfter (frameOf (cellOf lx ly lz hx hy hz) (old solutes) per (old indices) (old waters)) (frameTables (old starts) (old picks) (old clusters) (old «center_order») (old «water_order») (old records) (old boxes) (old leaves)) ⌝ }
-    ensures answers_after { λ r. ⌜ now (answers .exit) ≡ answersAfter (frameWords (frameAnswer (frameOf (cellOf lx ly lz hx hy hz) (old solutes) per (old indices) (old waters)) (frameTables (old starts) (old picks) (old clusters) (old «center_order») (old «water_order») (old records) (old boxes) (old leaves)))) (old answers) ⌝ }
+        ≡ frameAfter (frameOf (cellOf lx ly lz hx hy hz) cutoff (old solutes) per (old indices) (old waters)) (frameTables (old starts) (old picks) (old clusters) (old «center_order») (old «water_order») (old records) (old boxes) (old leaves)) ⌝ }
+    ensures answers_after { λ r. ⌜ now (answers .exit) ≡ answersAfter (frameWords (frameAnswer (frameOf (cellOf lx ly lz hx hy hz) cutoff (old solutes) per (old indices) (old waters)) (frameTables (old starts) (old picks) (old clusters) (old «center_order») (old «water_order») (old records) (old boxes) (old leaves)))) (old answers) ⌝ }
 {
     answers::frame(
         mixing::frame(
             answers::cell(lx, ly, lz, hx, hy, hz),
+            cutoff,
             solutes,
             per,
             indices,

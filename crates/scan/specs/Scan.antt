@@ -2,17 +2,18 @@
 -- Definitions only. Assumes nothing.
 use mathlib.Core.List.{List, [], _∷_}
 use Prim.Native.Nat.{ℕ, zero, suc}
+use lib.Ieee.{Float}
 use Rattle.pick_lists.specs.Sound.{copies}
 use Rattle.pick_lists.specs.Input.{Input}
 use Rattle.clusters.specs.Answers.{openAfter}
 use Rattle.clusters.specs.Order.{Call, row, after}
 
--- k rows, from row i on
-unfoldable pub rising : ℕ → ℕ → List Call
-rising zero i = []
-rising (suc k) i = row i ∷ rising k (suc i)
+-- m rows with the cutoff k, from row i on
+unfoldable pub rising : Float → ℕ → ℕ → List Call
+rising k zero i = []
+rising k (suc m) i = row k i ∷ rising k m (suc i)
 
--- the table t after Open and every row
-unfoldable pub scanned : Input → List ℕ → List ℕ
+-- the table t after Open and every row, with the cutoff k
+unfoldable pub scanned : Input → Float → List ℕ → List ℕ
 unfolding openAfter rising after
-scanned f t = after f (openAfter (copies (f .starts)) t) (rising (copies (f .starts)) 0)
+scanned f k t = after f (openAfter (copies (f .starts)) k t) (rising k (copies (f .starts)) 0)

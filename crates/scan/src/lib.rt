@@ -7,6 +7,7 @@ ghost use Prim.Native.Nat.{_*_, _<_, _≤_};
 ghost use lib.ListN.{length};
 ghost use Rattle.base.specs.Entry.{old};
 ghost use Rattle.cell.specs.Cell.{extentOf};
+ghost use Rattle.cell.specs.Reach.{soundReach};
 ghost use Rattle.base.specs.Refusals.{firstRefusal};
 ghost use Rattle.pick_lists.specs.Sound.{copies};
 ghost use Rattle.pick_lists.specs.Input.{inputRefusals, given};
@@ -23,6 +24,7 @@ use gates::Gates;
 // Row i as `clusters::scan_row`, given the cell's gates and the span table; `flags` is scratch.
 fn scan_boxed(
     cell: Cell,
+    cutoff: f32,
     g: Gates,
     solutes: &[f32],
     starts: &[u32],
@@ -32,18 +34,18 @@ fn scan_boxed(
     table: &mut [u32],
     i: usize,
 )
-    requires { ⌜ firstRefusal (inputRefusals (given cell (now solutes) [] (now starts) (now picks))) ≡ 0 ⌝ }
+    requires { ⌜ (firstRefusal (inputRefusals (given cell (now solutes) [] (now starts) (now picks))) ≡ 0) × (soundReach cutoff ≡ true) ⌝ }
     requires { ⌜ (words (copies (now starts)) ≤ length (now table)) × (soundTable (copies (now starts)) (now table) ≡ true) × (i < copies (now starts)) ⌝ }
-    requires { ⌜ (g ≡ gatesOf (extentOf cell)) × (6 * copies (now starts) ≤ length (now room)) × (copies (now starts) ≤ length (now flags)) ⌝ }
+    requires { ⌜ (g ≡ gatesOf cutoff (extentOf cell)) × (6 * copies (now starts) ≤ length (now room)) × (copies (now starts) ≤ length (now flags)) ⌝ }
     requires { ⌜ Spans (now solutes) (now starts) (now picks) (now room) ⌝ }
-    ensures { λ _. ⌜ now (table .exit) ≡ rowTable (copiesTouch (given cell (old solutes) [] (old starts) (old picks))) (copies (old starts)) i (old table) ⌝ }
+    ensures { λ _. ⌜ now (table .exit) ≡ rowTable (copiesTouch (given cell (old solutes) [] (old starts) (old picks)) cutoff) (copies (old starts)) i (old table) ⌝ }
 {
     let n = starts.len() - 1;
     // Flags of copies up to i are of an earlier row, and not read.
     span_table::mark_apart(g, room, flags, n, i);
     let mut k = i + 1;
     while k < n {
-        if span_table::marked_touch(cell, g, solutes, starts, picks, room, flags, i, k) {
+        if span_table::marked_touch(cell, cutoff, g, solutes, starts, picks, room, flags, i, k) {
             cluster_table::add_contact(table, n, i, k);
         }
         k += 1;
@@ -54,6 +56,7 @@ fn scan_boxed(
 // Opens the table and scans every row in rising order, with the span table.
 fn scan_rows(
     cell: Cell,
+    cutoff: f32,
     g: Gates,
     solutes: &[f32],
     starts: &[u32],
@@ -62,17 +65,28 @@ fn scan_rows(
     flags: &mut [u32],
     table: &mut [u32],
 )
-    requires { ⌜ firstRefusal (inputRefusals (given cell (now solutes) [] (now starts) (now picks))) ≡ 0 ⌝ }
+    requires { ⌜ (firstRefusal (inputRefusals (given cell (now solutes) [] (now starts) (now picks))) ≡ 0) × (soundReach cutoff ≡ true) ⌝ }
     requires { ⌜ words (copies (now starts)) ≤ length (now table) ⌝ }
-    requires { ⌜ (g ≡ gatesOf (extentOf cell)) × (6 * copies (now starts) ≤ length (now room)) × (copies (now starts) ≤ length (now flags)) ⌝ }
+    requires { ⌜ (g ≡ gatesOf cutoff (extentOf cell)) × (6 * copies (now starts) ≤ length (now room)) × (copies (now starts) ≤ length (now flags)) ⌝ }
     requires { ⌜ Spans (now solutes) (now starts) (now picks) (now room) ⌝ }
-    ensures { λ _. ⌜ now (table .exit) ≡ scanned (given cell (old solutes) [] (old starts) (old picks)) (old table) ⌝ }
+    ensures { λ _. ⌜ now (table .exit) ≡ scanned (given cell (old solutes) [] (old starts) (old picks)) cutoff (old table) ⌝ }
 {
     let copies = starts.len() - 1;
-    cluster_table::open_table(table, copies);
+    cluster_table::open_table(table, copies, numbers::class::to_bits32(cutoff));
     let mut i = 0;
     while i < copies {
-        scan_boxed(cell, g, solutes, starts, picks, room, flags, table, i);
+        scan_boxed(
+            cell,
+            cutoff,
+            g,
+            solutes,
+            starts,
+            picks,
+            room,
+            flags,
+            table,
+            i,
+        );
         i += 1;
     }
 }
@@ -87,10 +101,17 @@ fn flag_room() -> [u32; MAX_COPIES] {
 }
 
 // Opens the table and scans every row in rising order, for input that nothing refuses: the core of the whole frame. The span table is made once.
-pub fn scan_all(cell: Cell, solutes: &[f32], starts: &[u32], picks: &[u32], table: &mut [u32])
-    requires { ⌜ firstRefusal (inputRefusals (given cell (now solutes) [] (now starts) (now picks))) ≡ 0 ⌝ }
+pub fn scan_all(
+    cell: Cell,
+    cutoff: f32,
+    solutes: &[f32],
+    starts: &[u32],
+    picks: &[u32],
+    table: &mut [u32],
+)
+    requires { ⌜ (firstRefusal (inputRefusals (given cell (now solutes) [] (now starts) (now picks))) ≡ 0) × (soundReach cutoff ≡ true) ⌝ }
     requires { ⌜ words (copies (now starts)) ≤ length (now table) ⌝ }
-    ensures { λ _. ⌜ now (table .exit) ≡ scanned (given cell (old solutes) [] (old starts) (old picks)) (old table) ⌝ }
+    ensures { λ _. ⌜ now (table .exit) ≡ scanned (given cell (old solutes) [] (old starts) (old picks)) cutoff (old table) ⌝ }
 {
     // What the arrays hold at first is never read.
     let mut room = box_room();
@@ -98,7 +119,8 @@ pub fn scan_all(cell: Cell, solutes: &[f32], starts: &[u32], picks: &[u32], tabl
     span_table::fill_spans(solutes, starts, picks, &mut room);
     scan_rows(
         cell,
-        gates::gates_of(cell),
+        cutoff,
+        gates::gates_of(cell, cutoff),
         solutes,
         starts,
         picks,

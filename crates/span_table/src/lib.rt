@@ -97,9 +97,10 @@ pub fn mark_apart(g: Gates, table: &[f32], flags: &mut [u32], n: usize, i: usize
     }
 }
 
-// Whether copies i and j of sound pick lists touch, given the cell's gates and the span table.
+// Whether copies i and j of sound pick lists touch at the cutoff, given the cell's gates for it and the span table.
 fn copies_touch(
     cell: Cell,
+    cutoff: f32,
     g: Gates,
     xs: &[f32],
     starts: &[u32],
@@ -109,20 +110,21 @@ fn copies_touch(
     j: usize,
 ) -> bool
     requires { ⌜ soundLists (now xs) (now starts) (now picks) ≡ true ⌝ }
-    requires { ⌜ (g ≡ gatesOf (extentOf cell)) × (tested cell (now xs) ≡ true) ⌝ }
+    requires { ⌜ (g ≡ gatesOf cutoff (extentOf cell)) × (tested cell cutoff (now xs) ≡ true) ⌝ }
     requires { ⌜ Spans (now xs) (now starts) (now picks) (now table) ⌝ }
     requires { ⌜ (i < copies (now starts)) × (j < copies (now starts)) × (6 * copies (now starts) ≤ length (now table)) ⌝ }
-    ensures { λ r. ⌜ r ≡ copiesTouch (given cell (old xs) [] (old starts) (old picks)) i j ⌝ }
+    ensures { λ r. ⌜ r ≡ copiesTouch (given cell (old xs) [] (old starts) (old picks)) cutoff i j ⌝ }
 {
     let n = starts.len() - 1;
     let a = pick_lists::copy_picks(starts, picks, i);
     let b = pick_lists::copy_picks(starts, picks, j);
-    lists_touch(cell, g, xs, a, b, span_at(table, n, j))
+    lists_touch(cell, cutoff, g, xs, a, b, span_at(table, n, j))
 }
 
 // The same, for a copy j whose flag `mark_apart` has set against copy i.
 pub fn marked_touch(
     cell: Cell,
+    cutoff: f32,
     g: Gates,
     xs: &[f32],
     starts: &[u32],
@@ -133,14 +135,14 @@ pub fn marked_touch(
     j: usize,
 ) -> bool
     requires { ⌜ soundLists (now xs) (now starts) (now picks) ≡ true ⌝ }
-    requires { ⌜ (g ≡ gatesOf (extentOf cell)) × (tested cell (now xs) ≡ true) ⌝ }
+    requires { ⌜ (g ≡ gatesOf cutoff (extentOf cell)) × (tested cell cutoff (now xs) ≡ true) ⌝ }
     requires { ⌜ Spans (now xs) (now starts) (now picks) (now table) ⌝ }
     requires { ⌜ (i < copies (now starts)) × (j < copies (now starts)) × (6 * copies (now starts) ≤ length (now table)) ⌝ }
     requires { ⌜ (j < length (now flags)) × (getD (now flags) j 0 ≡ apartFlag g (now table) (copies (now starts)) i j) ⌝ }
-    ensures { λ r. ⌜ r ≡ copiesTouch (given cell (old xs) [] (old starts) (old picks)) i j ⌝ }
+    ensures { λ r. ⌜ r ≡ copiesTouch (given cell (old xs) [] (old starts) (old picks)) cutoff i j ⌝ }
 {
     if flags[j] != 0 {
         return false;
     }
-    copies_touch(cell, g, xs, starts, picks, table, i, j)
+    copies_touch(cell, cutoff, g, xs, starts, picks, table, i, j)
 }

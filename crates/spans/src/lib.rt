@@ -85,13 +85,21 @@ fn begin(g: Gates, b: Span, c: Span, end: usize) -> usize
     0
 }
 
-// Whether some pick of a and some pick of b, which lie in the box c, are near. A pick that a gate keeps apart from the box is passed over. The search
+// Whether some pick of a and some pick of b, which lie in the box c, are near at the cutoff. A pick that a gate keeps apart from the box is passed over. The search
 // leaves both lists at the first near pair.
-pub fn lists_touch(cell: Cell, g: Gates, xs: &[f32], a: &[u32], b: &[u32], c: Span) -> bool
-    requires { ⌜ (g ≡ gatesOf (extentOf cell)) × (tested cell (now xs) ≡ true) × (c ≡ spanOf (now xs) (now b)) × (0 < length (now b)) × (length (now b) ≤ maxPicks) ⌝ }
+pub fn lists_touch(
+    cell: Cell,
+    cutoff: f32,
+    g: Gates,
+    xs: &[f32],
+    a: &[u32],
+    b: &[u32],
+    c: Span,
+) -> bool
+    requires { ⌜ (g ≡ gatesOf cutoff (extentOf cell)) × (tested cell cutoff (now xs) ≡ true) × (c ≡ spanOf (now xs) (now b)) × (0 < length (now b)) × (length (now b) ≤ maxPicks) ⌝ }
     requires { ⌜ ((k : ℕ) → k < length (now a) → (getD (now a) k 0 * 3 + 2 < length (now xs)) × (finitePoint (pointAt (now xs) (getD (now a) k 0)) ≡ true)) ⌝ }
     requires { ⌜ ((k : ℕ) → k < length (now b) → (getD (now b) k 0 * 3 + 2 < length (now xs)) × (finitePoint (pointAt (now xs) (getD (now b) k 0)) ≡ true)) ⌝ }
-    ensures { λ r. ⌜ r ≡ anyPair (nearOf (extentOf cell) (old xs)) (old a) (old b) ⌝ }
+    ensures { λ r. ⌜ r ≡ anyPair (nearOf cutoff (extentOf cell) (old xs)) (old a) (old b) ⌝ }
 {
     let mut found = false;
     let mut i = 0;
@@ -99,7 +107,7 @@ pub fn lists_touch(cell: Cell, g: Gates, xs: &[f32], a: &[u32], b: &[u32], c: Sp
         let p = base::wide(a[i]);
         let mut j = begin(g, point_span(cell::point(xs, p)), c, b.len());
         while j < b.len() {
-            if gates::near(cell, g, xs, p, base::wide(b[j])) {
+            if gates::near(cell, cutoff, g, xs, p, base::wide(b[j])) {
                 found = true;
                 break 'pairs;
             }
@@ -180,9 +188,10 @@ pub fn next_close(g: Gates, xs: &[f32], starts: &[u32], picks: &[u32], s: Span, 
     n
 }
 
-// Whether copies i and j of sound pick lists touch, given the cell's gates.
+// Whether copies i and j of sound pick lists touch at the cutoff, given the cell's gates for it.
 pub fn row_touch(
     cell: Cell,
+    cutoff: f32,
     g: Gates,
     xs: &[f32],
     starts: &[u32],
@@ -191,11 +200,11 @@ pub fn row_touch(
     j: usize,
 ) -> bool
     requires { ⌜ soundLists (now xs) (now starts) (now picks) ≡ true ⌝ }
-    requires { ⌜ (g ≡ gatesOf (extentOf cell)) × (tested cell (now xs) ≡ true) ⌝ }
+    requires { ⌜ (g ≡ gatesOf cutoff (extentOf cell)) × (tested cell cutoff (now xs) ≡ true) ⌝ }
     requires { ⌜ (i < copies (now starts)) × (j < copies (now starts)) ⌝ }
-    ensures { λ r. ⌜ r ≡ copiesTouch (given cell (old xs) [] (old starts) (old picks)) i j ⌝ }
+    ensures { λ r. ⌜ r ≡ copiesTouch (given cell (old xs) [] (old starts) (old picks)) cutoff i j ⌝ }
 {
     let a = pick_lists::copy_picks(starts, picks, i);
     let b = pick_lists::copy_picks(starts, picks, j);
-    lists_touch(cell, g, xs, a, b, span_of(xs, b))
+    lists_touch(cell, cutoff, g, xs, a, b, span_of(xs, b))
 }

@@ -4,7 +4,7 @@ use mathlib.Core.Bool.{Bool, true, false, not, _&&_, _||_}
 use mathlib.Core.List.{[]}
 use lib.Dec.{eqb}
 use lib.ListN.{length}
-use lib.Ieee.{ofBits, toBits, ofInt, neg, sub, mul, div, lt, le}
+use lib.Ieee.{Float, ofBits, toBits, ofInt, neg, sub, mul, div, lt, le}
 use Rattle.floats.specs.Root.{sqrtOf}
 use Rattle.floats.specs.Whole.{floorOf, roundOf}
 use Rattle.cell.specs.declared.Vec3.{Vec3}
@@ -47,19 +47,19 @@ unfolding blankHolds isBlank kept keptCopies copiesFrom chunks
 none-holds f e = rw e (fourth-holds (not (valid (f .cell))) (eqb (length (f .solutes)) 0) (eqb (length (f .waters)) 0) (eqb (finiteWaters (f .waters)) 0))
 
 -- ---- five atoms and a water at the origin
-abbrev narrow : Frame
-narrow = frameOf (upTo 0x3400_0000) (atoms 5) 3 [] (atoms 1)
+abbrev narrow : Float → Frame
+narrow k = frameOf (upTo 0x3400_0000) k (atoms 5) 3 [] (atoms 1)
 
-abbrev ten : Frame
-ten = frameOf (upTo 0x4120_0000) (atoms 5) 0 [] (atoms 1)
+abbrev ten : Float → Frame
+ten k = frameOf (upTo 0x4120_0000) k (atoms 5) 0 [] (atoms 1)
 
-narrow-within : WithinLimits narrow
+narrow-within : (k : Float) → WithinLimits (narrow k)
 unfolding limited limitRefusals lengths counts bounds coordinates ragged long longIndices boundOver anyOver exceeds firstRefusal atoms ofBits neg lt
-narrow-within = refl
+narrow-within k = refl
 
-ten-within : WithinLimits ten
+ten-within : (k : Float) → WithinLimits (ten k)
 unfolding limited limitRefusals lengths counts bounds coordinates ragged long longIndices boundOver anyOver exceeds firstRefusal atoms ofBits neg lt
-ten-within = refl
+ten-within k = refl
 
 -- ---- all of them
 pub starred : Starred
@@ -73,13 +73,13 @@ starred =
       image-of-4 = refl;
       epsilon-not-valid = refl;
       epsilon-blank = λ f e. holds-blank f (epsilon-holds f e);
-      epsilon-five-atoms = holds-blank narrow (epsilon-holds narrow refl) narrow-within;
+      epsilon-five-atoms = λ k. holds-blank (narrow k) (epsilon-holds (narrow k) refl) (narrow-within k);
       above-epsilon-valid = refl;
       above-epsilon-disperses = checked .least-extent;
       short-chunk-dropped = refl;
       none-per-copy = refl;
       none-per-copy-blank = λ f e. holds-blank f (none-holds f e);
-      none-of-five-atoms = holds-blank ten (none-holds ten refl) ten-within;
+      none-of-five-atoms = λ k. holds-blank (ten k) (none-holds (ten k) refl) (ten-within k);
       repeated-index = refl;
       index-past-copy = refl;
       reference-of-8 = refl;

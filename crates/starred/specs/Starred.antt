@@ -46,19 +46,19 @@ pub record Starred : Type 0 where
   pub image-of-5 : minImage (alike 0x4120_0000) (alike 0x40a0_0000) ≡ alike 0xc0a0_0000
   pub image-of-minus-5 : minImage (alike 0x4120_0000) (alike 0xc0a0_0000) ≡ alike 0x40a0_0000
   pub image-of-4 : minImage (alike 0x4120_0000) (alike 0x4080_0000) ≡ alike 0x4080_0000
-  -- extents 2 ^ -23: not valid, and so blank; five atoms and a water are within the limits there
+  -- extents 2 ^ -23: not valid, and so blank, at any cutoff; five atoms and a water are within the limits there
   pub epsilon-not-valid : valid (upTo 0x3400_0000) ≡ false
   pub epsilon-blank : (f : Frame) → extentOf (f .cell) ≡ alike 0x3400_0000 → WithinLimits f → AnswersBlank f
-  pub epsilon-five-atoms : AnswersBlank (frameOf (upTo 0x3400_0000) (atoms 5) 3 [] (atoms 1))
+  pub epsilon-five-atoms : (k : Float) → AnswersBlank (frameOf (upTo 0x3400_0000) k (atoms 5) 3 [] (atoms 1))
   -- extents each 1.5 * 2 ^ -23: valid, dispersion 0 for two copies
   pub above-epsilon-valid : valid (upTo 0x3440_0000) ≡ true
   pub above-epsilon-disperses : (xs : List Float) (starts picks : List ℕ) → copies starts ≡ 2 → dispersionOf (given (upTo 0x3440_0000) xs [] starts picks) ≡ ofBits binary32 0
   -- three atoms per copy, five atoms: one copy
   pub short-chunk-dropped : keptCopies (atoms 5) 3 [] ≡ (0 ∷ 1 ∷ 2 ∷ []) ∷ []
-  -- zero per copy: no copy, and so blank; five atoms and a water in the cell 0..10 are within the limits
+  -- zero per copy: no copy, and so blank, at any cutoff; five atoms and a water in the cell 0..10 are within the limits
   pub none-per-copy : keptCopies (atoms 5) 0 [] ≡ []
   pub none-per-copy-blank : (f : Frame) → f .per ≡ 0 → WithinLimits f → AnswersBlank f
-  pub none-of-five-atoms : AnswersBlank (frameOf (upTo 0x4120_0000) (atoms 5) 0 [] (atoms 1))
+  pub none-of-five-atoms : (k : Float) → AnswersBlank (frameOf (upTo 0x4120_0000) k (atoms 5) 0 [] (atoms 1))
   -- indices 0, 0 pick atom 0 twice; index 9 alone picks all three
   pub repeated-index : keptCopies (atoms 3) 3 (0 ∷ 0 ∷ []) ≡ (0 ∷ 0 ∷ []) ∷ []
   pub index-past-copy : keptCopies (atoms 3) 3 (9 ∷ []) ≡ (0 ∷ 1 ∷ 2 ∷ []) ∷ []

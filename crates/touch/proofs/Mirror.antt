@@ -67,25 +67,25 @@ pair-swap f [] qs = sym (none qs)
 pair-swap f (p ∷ ps) qs = ap (λ (b : Bool). anyIn (f p) qs || b) (pair-swap f ps qs) ∙ sym (either (f p) (λ q. anyIn (λ r. f r q) ps) qs)
 
 -- ---- copies
-near-swap : (e : Vec3) (xs : List Float) (p q : ℕ) → near e xs q p ≡ near e xs p q
+near-swap : (k : Float) (e : Vec3) (xs : List Float) (p q : ℕ) → near k e xs q p ≡ near k e xs p q
 unfolding near
-near-swap e xs p q = ap (λ (d : Float). le d cutoff2) (distance-swap e (pointAt xs q) (pointAt xs p))
+near-swap k e xs p q = ap (λ (d : Float). le d (cutoff2 k)) (distance-swap e (pointAt xs q) (pointAt xs p))
 
 -- as functions, so that one may stand for the other in a search
-near-reversed : (e : Vec3) (xs : List Float) → (λ (p q : ℕ). near e xs q p) ≡ near e xs
-near-reversed e xs = fun-ext (λ p. fun-ext (λ q. near-swap e xs p q))
+near-reversed : (k : Float) (e : Vec3) (xs : List Float) → (λ (p q : ℕ). near k e xs q p) ≡ near k e xs
+near-reversed k e xs = fun-ext (λ p. fun-ext (λ q. near-swap k e xs p q))
 
 module _ (f : Input) where
-  touch-reversed : touchReversed f ≡ copiesTouch f
+  touch-reversed : (k : Float) → touchReversed f k ≡ copiesTouch f k
   unfolding touchReversed copiesTouch
-  touch-reversed = fun-ext (λ i. fun-ext (λ j. ap (λ (g : ℕ → ℕ → Bool). anyPair g (pickList (f .starts) (f .picks) i) (pickList (f .starts) (f .picks) j)) (near-reversed (extentOf (f .cell)) (f .solutes))))
+  touch-reversed k = fun-ext (λ i. fun-ext (λ j. ap (λ (g : ℕ → ℕ → Bool). anyPair g (pickList (f .starts) (f .picks) i) (pickList (f .starts) (f .picks) j)) (near-reversed k (extentOf (f .cell)) (f .solutes))))
 
-  touch-swap : (i j : ℕ) → copiesTouch f i j ≡ copiesTouch f j i
+  touch-swap : (k : Float) (i j : ℕ) → copiesTouch f k i j ≡ copiesTouch f k j i
   unfolding copiesTouch
-  touch-swap i j =
+  touch-swap k i j =
       let e = extentOf (f .cell) in
-      pair-swap (near e (f .solutes)) (pickList (f .starts) (f .picks) i) (pickList (f .starts) (f .picks) j)
-      ∙ ap (λ (g : ℕ → ℕ → Bool). anyPair g (pickList (f .starts) (f .picks) j) (pickList (f .starts) (f .picks) i)) (near-reversed e (f .solutes))
+      pair-swap (near k e (f .solutes)) (pickList (f .starts) (f .picks) i) (pickList (f .starts) (f .picks) j)
+      ∙ ap (λ (g : ℕ → ℕ → Bool). anyPair g (pickList (f .starts) (f .picks) j) (pickList (f .starts) (f .picks) i)) (near-reversed k e (f .solutes))
 
   -- ---- input that no test refuses
   module _ (h : firstRefusal (inputRefusals f) ≡ 0) where

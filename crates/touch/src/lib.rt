@@ -2,5 +2,5 @@
 // apart, by the minimum image (specs/Touch.antt). The search that runs is in crates `gates` and `spans`, behind this definition. Touch is
 // symmetric (specs/Mirror.antt).
 
-// The cutoff for contacts, in angstrom: at most, not below.
+// The Rust's cutoff for contacts, in angstrom, which the program `frame` uses.
 pub const CUTOFF: f32 = 4.2;

@@ -5,6 +5,7 @@ mod special;
 use crate::case::Case;
 use crate::frames;
 use crate::rng::Rng;
+use reading::CUTOFF;
 use reading::block::{BLOCK, Block, HEADER};
 use special::scattered;
 
@@ -26,7 +27,7 @@ fn of_case(c: &Case) -> Option<Block> {
 /// A random or degenerate frame of at most `most` bytes.
 pub fn random(rng: &mut Rng, most: usize) -> Vec<u8> {
     loop {
-        let case = if rng.one_in(3) { frames::degenerate(rng) } else { frames::random(rng) };
+        let case = if rng.one_in(3) { frames::degenerate(CUTOFF, rng) } else { frames::random(CUTOFF, rng) };
         if let Some(bytes) = of_case(&case).map(|b| b.write()).filter(|b| b.len() <= most) {
             return bytes;
         }

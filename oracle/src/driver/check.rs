@@ -113,7 +113,7 @@ impl Checker<'_> {
         }
         if self.wants(Call::Frame) || self.wants(Call::Original) {
             let same = case.lists.is_none() && touches.n == kept.len();
-            self.frame(same.then_some(&mut touches))?;
+            self.frames(same.then_some(&mut touches))?;
         }
         Ok(())
     }

@@ -3,7 +3,9 @@
 use crate::case::Case;
 use crate::rng::Rng;
 use parts::*;
+use reading::CUTOFF;
 
+mod cutoffs;
 mod damage;
 mod full;
 mod halves;
@@ -19,26 +21,29 @@ pub const GROUPS: [&str; 7] = ["tables", "tiny", "random", "damaged", "degenerat
 /// Case `number` of a group; None past the end of a group that ends.
 pub fn case(group: &str, seed: u64, number: u64) -> Option<Case> {
     let at = GROUPS.iter().position(|g| *g == group)? as u64;
-    let mut rng = Rng::new(seed, at, number);
-    match group {
-        "tables" => tiny::table(number, &mut rng),
-        "tiny" => tiny::frame(number, &mut rng),
-        "random" => Some(random(&mut rng)),
-        "damaged" => Some(damage::damaged(&mut rng)),
-        "degenerate" => Some(degenerate(&mut rng)),
-        "small" => Some(small(&mut rng)),
-        _ => full::full(number, &mut rng),
-    }
+    let (mut rng, mut own) = (Rng::new(seed, at, number), Rng::new(seed, 300 + at, number));
+    let reach = cutoffs::reach(group, &mut own);
+    let mut case = match group {
+        "tables" => tiny::table(number, &mut rng)?,
+        "tiny" => tiny::frame(number, &mut rng)?,
+        "random" => random(reach, &mut rng),
+        "damaged" => damage::damaged(reach, &mut rng),
+        "degenerate" => degenerate(reach, &mut rng),
+        "small" => small(reach, &mut rng),
+        _ => full::full(number, reach, &mut rng),
+    };
+    cutoffs::give(&mut case, reach, &mut own);
+    Some(case)
 }
 
-/// Everything around a frame: rows, pairs, tables.
+/// Everything around a frame but the cutoffs: rows, pairs, tables.
 fn around(mut c: Case, rng: &mut Rng) -> Case {
     let kept = reading::select_by_words(&c.solutes, c.per, &c.indices).len();
     if kept <= reading::COPIES {
         c.rows = rows(kept, rng);
         if kept > 0 {
             for _ in 0..rng.between(0, 4) {
-                c.pairs.push((rng.below(kept), rng.below(kept)));
+                c.pairs.push((rng.below(kept), rng.below(kept), CUTOFF));
             }
         }
     }
@@ -47,8 +52,9 @@ fn around(mut c: Case, rng: &mut Rng) -> Case {
     c
 }
 
-pub fn random(rng: &mut Rng) -> Case {
-    let cell = cell(rng);
+/// Copies beside one another are placed by the cutoff `reach`.
+pub fn random(reach: f32, rng: &mut Rng) -> Case {
+    let cell = cell(reach, rng);
     let size = rng.below(40);
     let (n, w) = match size {
         0 => (rng.between(100, 300), rng.between(0, 500)),
@@ -59,7 +65,7 @@ pub fn random(rng: &mut Rng) -> Case {
     let spread = rng.pick(&[Spread::Inside, Spread::Inside, Spread::Edges, Spread::Around, Spread::Far, Spread::Mixed]);
     let spoiled = rng.pick(&[0, 0, 0, 10, 2]);
     let crowded = rng.pick(&[0, 3, 6, 9]);
-    let mut solutes = copies(n, per, &cell, spread, crowded, spoiled, rng);
+    let mut solutes = copies(n, per, &cell, spread, crowded, spoiled, reach, rng);
     if rng.one_in(4) {
         // A trailing short chunk.
         let extra = points(rng.below(per), &cell, spread, 0, rng);
@@ -78,30 +84,30 @@ pub fn random(rng: &mut Rng) -> Case {
 
 /// Up to eight copies and one to eight waters in tables with room, so that many frames are answered in a short time. One case of three
 /// has separations at halves of the extents. Tree and Report are called alone in one case of sixteen.
-fn small(rng: &mut Rng) -> Case {
-    let case = if rng.one_in(3) { halves::small(rng) } else { scattered(rng) };
+fn small(reach: f32, rng: &mut Rng) -> Case {
+    let case = if rng.one_in(3) { halves::small(reach, rng) } else { scattered(reach, rng) };
     let mut case = around(case, rng);
     case.slack = case.slack.map(|s| s.max(0));
     case.trees_in_frame = !rng.one_in(16);
     case
 }
 
-fn scattered(rng: &mut Rng) -> Case {
-    let cell = cell(rng);
+fn scattered(reach: f32, rng: &mut Rng) -> Case {
+    let cell = cell(reach, rng);
     let n = rng.between(2, 8);
     let w = rng.between(1, 8);
     let per = rng.pick(&[1, 1, 1, 2, 3]);
     let spread = rng.pick(&[Spread::Inside, Spread::Inside, Spread::Edges, Spread::Around, Spread::Far, Spread::Mixed]);
     let spoiled = rng.pick(&[0, 0, 0, 0, 10]);
     let crowded = rng.pick(&[0, 3, 6, 9]);
-    let solutes = copies(n, per, &cell, spread, crowded, spoiled, rng);
+    let solutes = copies(n, per, &cell, spread, crowded, spoiled, reach, rng);
     let waters = points(w, &cell, spread, spoiled, rng);
     let indices = indices(per, rng);
     Case { shape: "small".into(), cell, solutes, per, indices, waters, ..Case::default() }
 }
 
-pub fn degenerate(rng: &mut Rng) -> Case {
-    let mut cell = if rng.one_in(2) { odd_cell(rng) } else { cell(rng) };
+pub fn degenerate(reach: f32, rng: &mut Rng) -> Case {
+    let mut cell = if rng.one_in(2) { odd_cell(reach, rng) } else { cell(reach, rng) };
     let n = rng.between(0, 24);
     let w = rng.between(0, 30);
     let per = rng.pick(&[1, 1, 2, 3]);
@@ -119,7 +125,7 @@ pub fn degenerate(rng: &mut Rng) -> Case {
             ("two places", solutes, points(w, &cell, Spread::Edges, 0, rng))
         }
         2 => {
-            let step = rng.pick(&[4.0, 4.2, 4.199_999, 4.3, -4.0, -4.2]);
+            let step = rng.pick(&[4.0, reach, reach.next_down().next_down(), 4.3, -4.0, -reach]);
             let start = point(&cell, Spread::Inside, rng);
             let axis = rng.below(3);
             let mut solutes = Vec::new();
@@ -158,7 +164,7 @@ pub fn degenerate(rng: &mut Rng) -> Case {
         }
         _ => {
             // Copies on a lattice of the cutoff: many contacts exactly at the edge.
-            let step = rng.pick(&[4.2, 2.1, 4.2_f32.next_up(), 4.2_f32.next_down()]);
+            let step = rng.pick(&[reach, reach / 2.0, reach.next_up(), reach.next_down()]);
             let mut solutes = Vec::new();
             for _ in 0..n * per {
                 solutes.extend([0, 1, 2].map(|axis| cell[axis] + step * rng.below(4) as f32));

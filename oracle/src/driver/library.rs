@@ -12,9 +12,9 @@ unsafe extern "C" {
         starts: *mut u32, starts_len: usize, picks: *mut u32, picks_len: usize,
         answers: *mut u32, answers_len: usize,
     ) -> u32;
-    fn baithrum_open(table: *mut u32, table_len: usize, n: usize) -> u32;
+    fn baithrum_open(table: *mut u32, table_len: usize, n: usize, cutoff: f32) -> u32;
     fn baithrum_row(
-        lx: f32, ly: f32, lz: f32, hx: f32, hy: f32, hz: f32, solutes: *const u32, solutes_len: usize,
+        lx: f32, ly: f32, lz: f32, hx: f32, hy: f32, hz: f32, cutoff: f32, solutes: *const u32, solutes_len: usize,
         starts: *const u32, starts_len: usize, picks: *const u32, picks_len: usize,
         table: *mut u32, table_len: usize, i: usize,
     ) -> u32;
@@ -45,7 +45,7 @@ unsafe extern "C" {
         answers: *mut u32, answers_len: usize,
     ) -> u32;
     fn baithrum_frame(
-        lx: f32, ly: f32, lz: f32, hx: f32, hy: f32, hz: f32, solutes: *const u32, solutes_len: usize,
+        lx: f32, ly: f32, lz: f32, hx: f32, hy: f32, hz: f32, cutoff: f32, solutes: *const u32, solutes_len: usize,
         per: usize, indices: *const u32, indices_len: usize, waters: *const u32, waters_len: usize,
         starts: *mut u32, starts_len: usize, picks: *mut u32, picks_len: usize,
         clusters: *mut u32, clusters_len: usize, center_order: *mut u32, center_order_len: usize,
@@ -156,15 +156,15 @@ pub fn select(
     }
 }
 
-pub fn open(table: &mut Table, n: usize) -> u32 {
-    unsafe { baithrum_open(table.lend(), table.len(), n) }
+pub fn open(table: &mut Table, n: usize, cutoff: f32) -> u32 {
+    unsafe { baithrum_open(table.lend(), table.len(), n, cutoff) }
 }
 
-pub fn row(l: &Lists, table: &mut Table, i: usize) -> u32 {
+pub fn row(l: &Lists, cutoff: f32, table: &mut Table, i: usize) -> u32 {
     let c = l.cell;
     unsafe {
         baithrum_row(
-            c[0], c[1], c[2], c[3], c[4], c[5], l.solutes.as_ptr(), l.solutes.len(),
+            c[0], c[1], c[2], c[3], c[4], c[5], cutoff, l.solutes.as_ptr(), l.solutes.len(),
             l.starts.as_ptr(), l.starts.len(), l.picks.as_ptr(), l.picks.len(),
             table.lend(), table.len(), i,
         )
@@ -234,6 +234,7 @@ pub struct FrameTables<'a> {
 /// `l.starts` and `l.picks` are not taken.
 pub fn frame(
     l: &Lists,
+    cutoff: f32,
     per: usize,
     indices: &[u32],
     f: &mut FrameTables,
@@ -244,7 +245,7 @@ pub fn frame(
     let c = l.cell;
     unsafe {
         baithrum_frame(
-            c[0], c[1], c[2], c[3], c[4], c[5], l.solutes.as_ptr(), l.solutes.len(),
+            c[0], c[1], c[2], c[3], c[4], c[5], cutoff, l.solutes.as_ptr(), l.solutes.len(),
             per, indices.as_ptr(), indices.len(), l.waters.as_ptr(), l.waters.len(),
             f.starts.lend(), f.starts.len(), f.picks.lend(), f.picks.len(),
             f.clusters.lend(), f.clusters.len(), t.center_order.lend(), t.center_order.len(),

@@ -1,8 +1,9 @@
 //! Makes a case that shows a difference smaller, as long as the same call still differs.
 
-use crate::case::Case;
+use crate::case::{Case, RowCall};
 use crate::check::{Difference, check};
 use crate::stats::{Call, Stats};
+use reading::CUTOFF;
 use std::time::{Duration, Instant};
 
 struct Reducer {
@@ -20,7 +21,10 @@ pub fn reduce(case: Case, found: Difference, seconds: u64) -> (Case, Difference,
     loop {
         let before = r.size();
         r.settings();
+        r.cutoffs();
         r.copies();
+        r.stretches(|c| c.opens.len(), |c, from, to| drop(c.opens.drain(from..to)));
+        r.stretches(|c| c.frames.len(), |c, from, to| drop(c.frames.drain(from..to)));
         r.stretches(|c| c.rows.len(), |c, from, to| drop(c.rows.drain(from..to)));
         r.stretches(|c| c.pairs.len(), |c, from, to| drop(c.pairs.drain(from..to)));
         r.stretches(|c| c.indices.len(), |c, from, to| drop(c.indices.drain(from..to)));
@@ -45,15 +49,21 @@ fn weight(x: f32) -> u64 {
     }
 }
 
+/// How plain a cutoff is: 4.2 first.
+fn cutoff_weight(x: f32) -> u64 {
+    if x.to_bits() == CUTOFF.to_bits() { 0 } else { 1 + weight(x) }
+}
+
 impl Reducer {
     fn size(&self) -> (usize, u64) {
         let c = &self.best;
         let lists = c.lists.as_ref().map_or(0, |(s, p)| s.len() + p.len() + 1);
         let table = c.table.as_ref().map_or(0, |t| t.len() + 1);
-        let lengths = c.solutes.len() + c.waters.len() + c.indices.len() + c.rows.len() + c.pairs.len();
+        let lengths = c.solutes.len() + c.waters.len() + c.indices.len() + c.rows.len() + c.pairs.len() + c.opens.len() + c.frames.len();
         let slack = c.slack.iter().filter(|s| **s != 0).count();
         let table = table + c.table.iter().flatten().filter(|w| **w != 0).count();
-        let plain = c.solutes.iter().chain(&c.waters).chain(&c.cell).map(|&x| weight(x)).sum();
+        let numbers: u64 = c.solutes.iter().chain(&c.waters).chain(&c.cell).map(|&x| weight(x)).sum();
+        let plain = numbers + c.clone().cutoffs().map(|k| cutoff_weight(*k)).sum::<u64>();
         (lengths + lists + table + slack + c.per.min(1_000) + (c.fill.min(4)) as usize, plain)
     }
 
@@ -103,6 +113,21 @@ impl Reducer {
         }
     }
 
+    /// Each cutoff, wherever it comes and in a given table too: 4.2 if that will do, else a plainer one.
+    fn cutoffs(&mut self) {
+        let mut all: Vec<u32> = self.best.cutoffs().map(|k| k.to_bits()).collect();
+        all.sort();
+        all.dedup();
+        for bits in all {
+            let k = f32::from_bits(bits);
+            for plain in [CUTOFF, 0.0, 1.0, 16.0, k.round(), (k * 16.0).round() / 16.0] {
+                if cutoff_weight(plain) < cutoff_weight(k) && self.change(|c| c.exchange_cutoff(bits, plain)) {
+                    break;
+                }
+            }
+        }
+    }
+
     /// Zeros in a given cluster table, if it is small.
     fn table_words(&mut self) {
         let len = self.best.table.as_ref().map_or(0, Vec::len);
@@ -148,8 +173,8 @@ impl Reducer {
                     i if i < to => None,
                     i => Some(i - gone),
                 };
-                c.rows = c.rows.iter().filter_map(|&i| moved(i)).collect();
-                c.pairs = c.pairs.iter().filter_map(|&(a, b)| Some((moved(a)?, moved(b)?))).collect();
+                c.rows = c.rows.iter().filter_map(|r| Some(RowCall { i: moved(r.i)?, ..*r })).collect();
+                c.pairs = c.pairs.iter().filter_map(|&(a, b, k)| Some((moved(a)?, moved(b)?, k))).collect();
                 if let (Some((starts, picks)), 1) = (&mut c.lists, per) {
                     // Lists of one pick a copy shrink with the frame; others are left for the call to judge.
                     if picks.len() + 1 == starts.len() && to <= picks.len() {

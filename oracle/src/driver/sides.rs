@@ -6,6 +6,7 @@ use crate::rng::Rng;
 use dynamics::SimBox;
 use lin_alg::f32::Vec3;
 use original::properties::opened::access as rust;
+use reading::{CUTOFF, HEAD};
 use std::hint::black_box;
 
 /// Waters, and the side in angstrom of a cube that so many fill at the density of water.
@@ -158,7 +159,7 @@ impl Tables {
         Tables {
             starts: zeros(f.copies + 1),
             picks: zeros(f.copies * f.per),
-            clusters: zeros(2 + 3 * f.copies),
+            clusters: zeros(HEAD + 3 * f.copies),
             center_order: zeros(f.copies),
             water_order: zeros(f.waters.len() / 3),
             records: zeros(8 * nodes),
@@ -214,9 +215,9 @@ fn select(f: &Frame, t: &mut Tables) -> Words {
 
 fn scan(l: &Lists, t: &mut Tables) -> Words {
     let n = l.starts.len() - 1;
-    assert_eq!(library::open(&mut t.clusters, n), 0);
+    assert_eq!(library::open(&mut t.clusters, n, CUTOFF), 0);
     for i in 0..n {
-        assert_eq!(library::row(l, &mut t.clusters, i), 0);
+        assert_eq!(library::row(l, CUTOFF, &mut t.clusters, i), 0);
     }
     assert_eq!(library::close(t.clusters.words(), &mut t.answers), 0);
     first(&t.answers.words()[..3])
@@ -240,7 +241,7 @@ fn whole(l: &Lists, per: usize, t: &mut Tables) -> Words {
     let Tables { starts, picks, clusters, center_order, water_order, records, boxes, leaves, answers } = t;
     let mut lists = FrameTables { starts, picks, clusters };
     let mut lent = TreeTables { center_order, water_order, records, boxes };
-    assert_eq!(library::frame(l, per, &[], &mut lists, &mut lent, leaves, answers), 0);
+    assert_eq!(library::frame(l, CUTOFF, per, &[], &mut lists, &mut lent, leaves, answers), 0);
     assert_eq!(answers.words()[0], 0, "the frame is not blank");
     first(&answers.words()[3..6])
 }

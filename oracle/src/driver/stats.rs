@@ -26,6 +26,8 @@ pub const BLANK: u32 = 1000;
 #[derive(Default, Clone)]
 pub struct Stats {
     pub answers: BTreeMap<Call, BTreeMap<u32, u64>>,
+    /// The cutoffs that calls brought: 4.2, others accepted, refused.
+    pub cutoffs: BTreeMap<Call, [u64; 3]>,
     pub entries: u64,
     pub groups: BTreeMap<&'static str, u64>,
     /// Whole frames that were neither blank nor refused, and these by group.
@@ -54,6 +56,15 @@ impl Stats {
         *self.answers.entry(call).or_default().entry(answer).or_default() += 1;
     }
 
+    pub fn count_cutoff(&mut self, call: Call, cutoff: f32) {
+        let class = match cutoff {
+            k if reading::cutoff_refused(k) => 2,
+            k if k.to_bits() != reading::CUTOFF.to_bits() => 1,
+            _ => 0,
+        };
+        self.cutoffs.entry(call).or_default()[class] += 1;
+    }
+
     pub fn add_halves(&mut self, counts: [u64; 4]) {
         self.with_halves += (counts != [0; 4]) as u64;
         for (sum, n) in self.halves.iter_mut().zip(counts) {
@@ -74,6 +85,11 @@ impl Stats {
                 .map(|(&a, n)| if a == BLANK { format!("blank: {n}") } else { format!("{a}: {n}") })
                 .collect();
             println!("  {:<12} {total:>10}   {}", format!("{call:?}").to_lowercase(), each.join("  "));
+        }
+        println!("cutoffs that these calls brought:");
+        for (call, [original, other, refused]) in &self.cutoffs {
+            let name = format!("{call:?}").to_lowercase();
+            println!("  {name:<12} 4.2: {original}  others accepted: {other}  refused: {refused}");
         }
         let each: Vec<String> = self.whole_by_group.iter().map(|(group, n)| format!("{group}: {n}")).collect();
         println!("whole frames neither blank nor refused: {}   {}", self.whole, each.join("  "));

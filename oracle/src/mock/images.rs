@@ -17,8 +17,8 @@ fn image(cell: &SimBox, d: Vec3, round: Round) -> Vec3 {
     Vec3::new(axis(d.x, cell.extent.x), axis(d.y, cell.extent.y), axis(d.z, cell.extent.z))
 }
 
-pub fn touch(p: &Picked, i: usize, j: usize, round: Round) -> bool {
-    let near = |a, b| image(&p.cell, b - a, round).magnitude_squared() <= 4.2 * 4.2;
+pub fn touch(p: &Picked, cutoff: f32, i: usize, j: usize, round: Round) -> bool {
+    let near = |a, b| image(&p.cell, b - a, round).magnitude_squared() <= cutoff * cutoff;
     p.mols[i].iter().any(|&a| p.mols[j].iter().any(|&b| near(a, b)))
 }
 
@@ -46,11 +46,11 @@ pub fn dispersion(p: &Picked, round: Round) -> f32 {
     ((sum / pairs as f64).sqrt() as f32 / uniform).clamp(0.0, 1.0)
 }
 
-/// The waters in the shell of a leaf whose box begins `sides`.
-pub fn shell(cell: &SimBox, sides: &[u32], waters: &[f32], round: Round) -> u32 {
+/// The waters in the shell, so wide, of a leaf whose box begins `sides`.
+pub fn shell(cell: &SimBox, sides: &[u32], waters: &[f32], width: f32, round: Round) -> u32 {
     let side = |k: usize| f32::from_bits(sides[k]);
     let (low, high) = (Vec3::new(side(0), side(1), side(2)), Vec3::new(side(3), side(4), side(5)));
-    let half = (high - low) * 0.5 + Vec3::splat(rust::SHELL);
+    let half = (high - low) * 0.5 + Vec3::splat(width);
     let within = |d: f32, half: f32, e: f32| d.abs() <= half.min(e * 0.5);
     let inside = |p: &Vec3| {
         let d = image(cell, cell.wrap(*p) - (low + high) * 0.5, round);

@@ -6,11 +6,11 @@
 mod images;
 mod whole;
 
-use reading::{Answer, Picked};
+use reading::{Answer, CUTOFF, GREATEST_CUTOFF, HEAD, Picked, cutoff_refused};
 use std::sync::atomic::{AtomicU32, Ordering};
 
 /// The mistakes, by number less one; `oracle/selftest` tries each.
-pub const FAULTS: [&str; 36] = [
+pub const FAULTS: [&str; 66] = [
     "select: picks are sorted",
     "select: 4 is tested for whole atoms, not coordinate by coordinate",
     "select: 5 counts vanished copies too",
@@ -47,6 +47,36 @@ pub const FAULTS: [&str; 36] = [
     "centers: half an extent stays as it is",
     "dispersion: the minimum image rounds the number below a half up",
     "report: the minimum image rounds the number below a half up",
+    "open: 16 before 5",
+    "open: 16 after 7",
+    "open: the bits of 4.2 whatever the cutoff",
+    "open: the cutoff 16 is refused",
+    "open: a subnormal cutoff is refused",
+    "open: a refused cutoff is written",
+    "row: 16 before 8",
+    "row: 16 after 7",
+    "row: 16 after 9",
+    "row: 17 before 9",
+    "row: 17 after 10",
+    "row: 17 after 11",
+    "row: 9 where the table's cutoff is none",
+    "row: the cutoff 16 is refused",
+    "row: the sign of its cutoff is dropped",
+    "row: a cutoff one ulp from the table's is accepted",
+    "row: another cutoff than the table's is accepted",
+    "row: the cutoff is not squared",
+    "row: the cutoff is squared in f64",
+    "row: the distance's root against the cutoff",
+    "row: a cutoff whose square is 0 touches nothing",
+    "close: a table of two words is long enough",
+    "close: 9 where the table's cutoff is none",
+    "frame: its cutoff is not looked at, 4.2 is used",
+    "frame: contacts at 4.2 whatever the cutoff",
+    "frame: the table has the bits of 4.2 whatever the cutoff",
+    "frame: shells are as wide as the cutoff",
+    "frame: 16 before blank",
+    "frame: 16 before 5 and 6",
+    "frame: 16 after 7",
 ];
 
 static FAULT: AtomicU32 = AtomicU32::new(0);
@@ -117,19 +147,45 @@ pub unsafe extern "C" fn baithrum_select(
 }
 
 #[unsafe(no_mangle)]
-pub unsafe extern "C" fn baithrum_open(table: *mut u32, table_len: usize, n: usize) -> u32 {
+pub unsafe extern "C" fn baithrum_open(table: *mut u32, table_len: usize, n: usize, cutoff: f32) -> u32 {
     let table = unsafe { lent(table, table_len) };
     let before = table.to_vec();
-    let answer = reading::open(table, n);
-    if fault("open: the marks keep their values") && answer.is_ok() {
-        table[2 + 2 * n..2 + 3 * n].copy_from_slice(&before[2 + 2 * n..2 + 3 * n]);
+    let answer = reading::open(table, n, cutoff);
+    match answer {
+        Ok(_) => {
+            if fault("open: the marks keep their values") {
+                table[HEAD + 2 * n..HEAD + 3 * n].copy_from_slice(&before[HEAD + 2 * n..HEAD + 3 * n]);
+            }
+            if fault("open: the bits of 4.2 whatever the cutoff") {
+                table[2] = CUTOFF.to_bits();
+            }
+            if fault("open: the cutoff 16 is refused") && cutoff == GREATEST_CUTOFF
+                || fault("open: a subnormal cutoff is refused") && cutoff.is_subnormal()
+            {
+                table.copy_from_slice(&before);
+                return 16;
+            }
+        }
+        Err(5) if fault("open: 16 before 5") && cutoff_refused(cutoff) => return 16,
+        Err(16) if fault("open: 16 after 7") && table_len < HEAD + 3 * n => return 7,
+        Err(16) if fault("open: a refused cutoff is written") && table_len >= HEAD => table[2] = cutoff.to_bits(),
+        _ => {}
     }
     give(answer, &mut [])
 }
 
+/// Mistakes in whether a squared distance and a cutoff touch.
+const TOUCHES: [(&str, fn(f32, f32) -> bool); 5] = [
+    ("row: the cutoff itself does not touch", |d2, k| d2 < k * k),
+    ("row: the cutoff is not squared", |d2, k| d2 <= k),
+    ("row: the cutoff is squared in f64", |d2, k| d2 as f64 <= k as f64 * k as f64),
+    ("row: the distance's root against the cutoff", |d2, k| d2.sqrt() <= k),
+    ("row: a cutoff whose square is 0 touches nothing", |d2, k| k * k > 0.0 && d2 <= k * k),
+];
+
 #[unsafe(no_mangle)]
 pub unsafe extern "C" fn baithrum_row(
-    lx: f32, ly: f32, lz: f32, hx: f32, hy: f32, hz: f32, solutes: *const f32, solutes_len: usize,
+    lx: f32, ly: f32, lz: f32, hx: f32, hy: f32, hz: f32, cutoff: f32, solutes: *const f32, solutes_len: usize,
     starts: *const u32, starts_len: usize, picks: *const u32, picks_len: usize,
     table: *mut u32, table_len: usize, i: usize,
 ) -> u32 {
@@ -137,61 +193,95 @@ pub unsafe extern "C" fn baithrum_row(
     let (starts, picks) = unsafe { (given(starts, starts_len), given(picks, picks_len)) };
     let table = unsafe { lent(table, table_len) };
     let i = if fault("row: the row's number is cut to 32 bits") { i as u32 as usize } else { i };
+    let cutoff = if fault("row: the sign of its cutoff is dropped") { cutoff.abs() } else { cutoff };
     let picked = Picked::read([lx, ly, lz, hx, hy, hz], solutes, &[], starts, picks);
     let before = table.to_vec();
     let mut touch = |i: usize, j: usize| {
         let p = picked.as_ref().ok().unwrap();
         if fault("row: the minimum image rounds halves to even") {
-            return images::touch(p, i, j, f32::round_ties_even);
+            return images::touch(p, cutoff, i, j, f32::round_ties_even);
         }
-        let near = p.touch(i, j);
-        if near && fault("row: the cutoff itself does not touch") {
-            let d2 = |a, b| p.cell.min_image(b - a).magnitude_squared();
-            return p.mols[i].iter().any(|&a| p.mols[j].iter().any(|&b| d2(a, b) < 4.2 * 4.2));
+        let d2 = |a, b| p.cell.min_image(b - a).magnitude_squared();
+        let any = |near: fn(f32, f32) -> bool| p.mols[i].iter().any(|&a| p.mols[j].iter().any(|&b| near(d2(a, b), cutoff)));
+        for (name, near) in TOUCHES {
+            if fault(name) {
+                return any(near);
+            }
         }
-        near
+        p.touch(cutoff, i, j)
     };
-    let mut answer = reading::row(&picked, table, i, &mut touch);
+    let mut answer = reading::row(&picked, cutoff, table, i, &mut touch);
     let n = starts_len.saturating_sub(1);
+    if picked.is_ok() && cutoff == GREATEST_CUTOFF && fault("row: the cutoff 16 is refused") {
+        table.copy_from_slice(&before);
+        return 16;
+    }
     match answer {
         Ok(_) => {
             let joined = |t: &[u32], mut a: usize| {
-                while t[2 + a] as usize != a {
-                    a = t[2 + a] as usize;
+                while t[HEAD + a] as usize != a {
+                    a = t[HEAD + a] as usize;
                 }
                 a
             };
             if fault("row: no degree where the roots already agree") {
                 for j in i + 1..n {
                     if touch(i, j) && joined(&before, i) == joined(&before, j) {
-                        table[2 + n + i] -= 1;
-                        table[2 + n + j] -= 1;
+                        table[HEAD + n + i] -= 1;
+                        table[HEAD + n + j] -= 1;
                     }
                 }
             }
             if fault("row: the mark is forgotten") {
-                table[2 + 2 * n + i] = 0;
+                table[HEAD + 2 * n + i] = 0;
             }
             if fault("row: a chain is not shortened") {
                 for k in 0..n {
-                    if before[2 + k] as usize != k {
-                        table[2 + k] = before[2 + k];
+                    if before[HEAD + k] as usize != k {
+                        table[HEAD + k] = before[HEAD + k];
                     }
                 }
             }
         }
+        Err(8) if fault("row: 16 before 8") && cutoff_refused(cutoff) => return 16,
+        Err(16) if fault("row: 16 after 7") && table_len < HEAD + 3 * n => return 7,
+        Err(16) if fault("row: 16 after 9") => {
+            if reading::row(&picked, CUTOFF, &mut before.clone(), i, &mut touch) == Err(9) {
+                return 9;
+            }
+        }
+        Err(9) if fault("row: 17 before 9") && cutoff.to_bits() != table[2] => return 17,
+        Err(17) => {
+            let own = f32::from_bits(table[2]);
+            if fault("row: 17 after 10") && i >= n {
+                return 10;
+            }
+            if fault("row: 17 after 11") && i < n && table[HEAD + 2 * n + i] == 1 {
+                return 11;
+            }
+            if fault("row: 9 where the table's cutoff is none") && cutoff_refused(own) {
+                return 9;
+            }
+            if fault("row: another cutoff than the table's is accepted")
+                || fault("row: a cutoff one ulp from the table's is accepted") && own.to_bits().abs_diff(cutoff.to_bits()) == 1
+            {
+                table[2] = cutoff.to_bits();
+                answer = reading::row(&picked, cutoff, table, i, &mut touch);
+                table[2] = own.to_bits();
+            }
+        }
         Err(11) if fault("row: a repeated row is accepted") => {
-            table[2 + 2 * n + i] = 0;
-            answer = reading::row(&picked, table, i, &mut touch);
+            table[HEAD + 2 * n + i] = 0;
+            answer = reading::row(&picked, cutoff, table, i, &mut touch);
         }
         Err(7) if fault("row: 9 before 7") && table.first().is_some_and(|&t| t as usize != n) => return 9,
         Err(9) if fault("row: a cycle of parents is taken as sound") && table[0] as usize == n => {
             // Every parent of a cycle's copy is below n; all else is sound if it is with plain parents.
-            if table[2..2 + n].iter().all(|&p| (p as usize) < n) {
+            if table[HEAD..HEAD + n].iter().all(|&p| (p as usize) < n) {
                 let mut plain = table.to_vec();
-                plain[2..2 + n].copy_from_slice(&(0..n as u32).collect::<Vec<_>>());
-                if reading::row(&picked, &mut plain, i, &mut touch).is_ok() {
-                    table[2 + 2 * n + i] = 1;
+                plain[HEAD..HEAD + n].copy_from_slice(&(0..n as u32).collect::<Vec<_>>());
+                if reading::row(&picked, cutoff, &mut plain, i, &mut touch).is_ok() {
+                    table[HEAD + 2 * n + i] = 1;
                     return 0;
                 }
             }
@@ -218,8 +308,14 @@ pub unsafe extern "C" fn baithrum_close(
     if fault("close: answers with a mark 0") && answer == Err(12) {
         let n = table[0] as usize;
         let mut marked = table.to_vec();
-        marked[2 + 2 * n..2 + 3 * n].fill(1);
+        marked[HEAD + 2 * n..HEAD + 3 * n].fill(1);
         answer = reading::close(&marked);
+    }
+    if fault("close: a table of two words is long enough") && table.len() == 2 && table[0] == 0 {
+        answer = Ok([0; 3]);
+    }
+    if fault("close: 9 where the table's cutoff is none") && answer.is_ok() && cutoff_refused(f32::from_bits(table[2])) {
+        answer = Err(9);
     }
     if fault("close: n over 4,096 is 7") && answer == Err(9) && table[0] > 4_096 {
         answer = Err(7);

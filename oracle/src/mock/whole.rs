@@ -1,7 +1,8 @@
 //! Tree, Report and the whole frame of the mock.
 
 use super::{fault, give, given, images, lent};
-use reading::{Answer, FrameInput, FrameWork, Picked, TreeTables, Worked};
+use original::properties::opened::access as rust;
+use reading::{Answer, CUTOFF, FrameInput, FrameWork, Picked, TreeTables, Worked};
 
 /// Tree (`leaves` is None) and Report.
 fn grow<const N: usize>(
@@ -119,7 +120,7 @@ pub unsafe extern "C" fn baithrum_report(
                 let cell = reading::simbox([lx, ly, lz, hx, hy, hz]);
                 for leaf in table.chunks_mut(8).take(a[2] as usize) {
                     let sides = &t.boxes[6 * leaf[0] as usize..];
-                    leaf[4] = images::shell(&cell, sides, given(waters, waters_len), images::half_added);
+                    leaf[4] = images::shell(&cell, sides, given(waters, waters_len), rust::SHELL, images::half_added);
                 }
             }
         }
@@ -129,7 +130,7 @@ pub unsafe extern "C" fn baithrum_report(
 
 #[unsafe(no_mangle)]
 pub unsafe extern "C" fn baithrum_frame(
-    lx: f32, ly: f32, lz: f32, hx: f32, hy: f32, hz: f32, solutes: *const f32, solutes_len: usize,
+    lx: f32, ly: f32, lz: f32, hx: f32, hy: f32, hz: f32, cutoff: f32, solutes: *const f32, solutes_len: usize,
     per: usize, indices: *const u32, indices_len: usize, waters: *const f32, waters_len: usize,
     starts: *mut u32, starts_len: usize, picks: *mut u32, picks_len: usize,
     clusters: *mut u32, clusters_len: usize, center_order: *mut u32, center_order_len: usize,
@@ -138,16 +139,19 @@ pub unsafe extern "C" fn baithrum_frame(
     answers: *mut u32, answers_len: usize,
 ) -> u32 {
     unsafe {
+        let cutoff = if fault("frame: its cutoff is not looked at, 4.2 is used") { CUTOFF } else { cutoff };
         let input = FrameInput {
             cell: [lx, ly, lz, hx, hy, hz],
+            cutoff,
             solutes: given(solutes, solutes_len),
             per,
             indices: given(indices, indices_len),
             waters: given(waters, waters_len),
         };
         let work = reading::frame_picks(&input).map(|some| {
-            let mut touch = |p: &Picked, i: usize, j: usize| p.touch(i, j);
-            some.map(|(kept, picked)| FrameWork::new(kept, picked, input.waters, &mut touch))
+            let at = if fault("frame: contacts at 4.2 whatever the cutoff") { CUTOFF } else { cutoff };
+            let mut touch = |p: &Picked, i: usize, j: usize| p.touch(at, i, j);
+            some.map(|(kept, picked)| FrameWork::new(kept, picked, cutoff, input.waters, &mut touch))
         });
         let mut t = TreeTables {
             center_order: lent(center_order, center_order_len),
@@ -159,6 +163,32 @@ pub unsafe extern "C" fn baithrum_frame(
         let table = lent(clusters, clusters_len);
         let before = table.to_vec();
         let answer = reading::frame(&work, lent(starts, starts_len), lent(picks, picks_len), table, &mut t);
+        if reading::cutoff_refused(cutoff) {
+            if fault("frame: 16 before blank") && matches!(answer, Ok([1, ..])) {
+                return 16;
+            }
+            if fault("frame: 16 before 5 and 6") && matches!(answer, Err(5 | 6)) {
+                return 16;
+            }
+            if fault("frame: 16 after 7") && answer == Err(16) {
+                let (kept, _) = reading::frame_picks(&FrameInput { cutoff: CUTOFF, ..input }).unwrap().unwrap();
+                let lengths = [starts_len, picks_len, clusters_len, center_order_len, water_order_len];
+                if reading::frame_short(&kept, reading::finite_waters(input.waters), lengths) {
+                    return 7;
+                }
+            }
+        }
+        if let Ok([0, .., leaves, _]) = answer {
+            if fault("frame: the table has the bits of 4.2 whatever the cutoff") {
+                table[2] = CUTOFF.to_bits();
+            }
+            if fault("frame: shells are as wide as the cutoff") {
+                let cell = reading::simbox(input.cell);
+                for leaf in t.leaves.as_mut().unwrap().chunks_mut(8).take(leaves as usize) {
+                    leaf[4] = images::shell(&cell, &t.boxes[6 * leaf[0] as usize..], input.waters, cutoff, f32::round);
+                }
+            }
+        }
         if let Ok([1, ..]) = answer {
             if fault("frame: 5 before blank")
                 && reading::select_by_words(input.solutes, per, input.indices).len() > 4_096

@@ -1,6 +1,6 @@
 //! The program `frame`, read from the rules: its block and its listing.
 
-use super::{FrameInput, FrameWork, Picked, TreeTables, finite_waters, frame, frame_picks, frame_short};
+use super::{CUTOFF, FrameInput, FrameWork, HEAD, Picked, TreeTables, finite_waters, frame, frame_picks, frame_short};
 use std::fmt::Write;
 
 /// With its length word.
@@ -78,6 +78,7 @@ pub fn listing(bytes: &[u8]) -> String {
     };
     let input = FrameInput {
         cell: block.cell,
+        cutoff: CUTOFF,
         solutes: &block.solutes,
         per: block.per as usize,
         indices: &block.indices,
@@ -86,7 +87,7 @@ pub fn listing(bytes: &[u8]) -> String {
     let atoms = BLOCK / 12;
     let mut starts = vec![0; atoms + 1];
     let mut picks = vec![0; PICKS_LENT];
-    let mut clusters = vec![0; 2 + 3 * atoms];
+    let mut clusters = vec![0; HEAD + 3 * atoms];
     let (mut center_order, mut water_order) = (vec![0; atoms], vec![0; atoms]);
     let mut records = vec![0; 8 * RECORDS_LENT];
     let mut boxes = vec![0; 6 * RECORDS_LENT];
@@ -98,8 +99,8 @@ pub fn listing(bytes: &[u8]) -> String {
         // Before the work, which can be long for so many picks.
         Ok(Some((kept, _))) if frame_short(&kept, finite_waters(input.waters), lengths) => Err(7),
         Ok(Some((kept, picked))) => {
-            let mut touch = |p: &Picked, i: usize, j: usize| p.touch(i, j);
-            Ok(Some(FrameWork::new(kept, picked, input.waters, &mut touch)))
+            let mut touch = |p: &Picked, i: usize, j: usize| p.touch(CUTOFF, i, j);
+            Ok(Some(FrameWork::new(kept, picked, CUTOFF, input.waters, &mut touch)))
         }
     };
     let mut tables = TreeTables {

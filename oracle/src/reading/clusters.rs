@@ -1,30 +1,37 @@
-//! Open, Row and Close on the cluster table: n, contacts, then n parents, n degrees, n marks.
+//! Open, Row and Close on the cluster table: n, contacts, the cutoff's bits, then n parents, n degrees, n marks.
 
 use super::*;
 use original::properties::opened::access as rust;
 
-pub fn open(table: &mut [u32], n: usize) -> Answer<[u32; 0]> {
+/// The words before the parents.
+pub const HEAD: usize = 3;
+
+pub fn open(table: &mut [u32], n: usize, cutoff: f32) -> Answer<[u32; 0]> {
     if n > COPIES {
         return Err(5);
     }
-    if table.len() < 2 + 3 * n {
+    if cutoff_refused(cutoff) {
+        return Err(16);
+    }
+    if table.len() < HEAD + 3 * n {
         return Err(7);
     }
     table[0] = n as u32;
     table[1] = 0;
+    table[2] = cutoff.to_bits();
     for i in 0..n {
-        table[2 + i] = i as u32;
-        table[2 + n + i] = 0;
-        table[2 + 2 * n + i] = 0;
+        table[HEAD + i] = i as u32;
+        table[HEAD + n + i] = 0;
+        table[HEAD + 2 * n + i] = 0;
     }
     Ok([])
 }
 
-/// What is true of a table that is long enough for n copies and yet unsound.
+/// What is true of a table that is long enough for n copies and yet unsound. Its cutoff may be any word.
 pub(crate) fn table_unsound(table: &[u32], n: usize) -> bool {
-    let parents = &table[2..2 + n];
-    let degrees = &table[2 + n..2 + 2 * n];
-    let marks = &table[2 + 2 * n..2 + 3 * n];
+    let parents = &table[HEAD..HEAD + n];
+    let degrees = &table[HEAD + n..HEAD + 2 * n];
+    let marks = &table[HEAD + 2 * n..HEAD + 3 * n];
     if table[0] as usize != n || table[1] as usize > n * n.saturating_sub(1) / 2 {
         return true;
     }
@@ -55,24 +62,25 @@ pub(crate) fn table_unsound(table: &[u32], n: usize) -> bool {
 
 /// The joining of one row, on a table known to be sound; `touch` says whether two copies touch.
 pub(crate) fn scan_row(table: &mut [u32], n: usize, i: usize, touch: &mut dyn FnMut(usize, usize) -> bool) {
-    let mut parent: Vec<usize> = table[2..2 + n].iter().map(|&p| p as usize).collect();
+    let mut parent: Vec<usize> = table[HEAD..HEAD + n].iter().map(|&p| p as usize).collect();
     for j in i + 1..n {
         if touch(i, j) {
             rust::union(&mut parent, i, j);
-            table[2 + n + i] += 1;
-            table[2 + n + j] += 1;
+            table[HEAD + n + i] += 1;
+            table[HEAD + n + j] += 1;
             table[1] += 1;
         }
     }
     for (k, p) in parent.into_iter().enumerate() {
-        table[2 + k] = p as u32;
+        table[HEAD + k] = p as u32;
     }
-    table[2 + 2 * n + i] = 1;
+    table[HEAD + 2 * n + i] = 1;
 }
 
-/// `picked` is what `Picked::read` answered for this call's lists, a refusal too.
+/// `picked` is what `Picked::read` answered for this call's lists, a refusal too; `touch` is at this call's cutoff.
 pub fn row(
     picked: &Answer<Picked>,
+    cutoff: f32,
     table: &mut [u32],
     i: usize,
     touch: &mut dyn FnMut(usize, usize) -> bool,
@@ -81,16 +89,22 @@ pub fn row(
         Ok(p) => p.n(),
         Err(number) => return Err(*number),
     };
-    if table.len() < 2 + 3 * n {
+    if cutoff_refused(cutoff) {
+        return Err(16);
+    }
+    if table.len() < HEAD + 3 * n {
         return Err(7);
     }
     if table_unsound(table, n) {
         return Err(9);
     }
+    if cutoff.to_bits() != table[2] {
+        return Err(17);
+    }
     if i >= n {
         return Err(10);
     }
-    if table[2 + 2 * n + i] == 1 {
+    if table[HEAD + 2 * n + i] == 1 {
         return Err(11);
     }
     scan_row(table, n, i, touch);
@@ -101,13 +115,13 @@ pub(crate) fn fractions(table: &[u32], n: usize) -> [u32; 3] {
     if n < 2 {
         return [0, 0, 0];
     }
-    let mut parent: Vec<usize> = table[2..2 + n].iter().map(|&p| p as usize).collect();
+    let mut parent: Vec<usize> = table[HEAD..HEAD + n].iter().map(|&p| p as usize).collect();
     let mut sizes = vec![0usize; n];
     for i in 0..n {
         sizes[rust::root(&mut parent, i)] += 1;
     }
     let largest = sizes.into_iter().max().unwrap();
-    let contacted = table[2 + n..2 + 2 * n].iter().filter(|&&d| d > 0).count();
+    let contacted = table[HEAD + n..HEAD + 2 * n].iter().filter(|&&d| d > 0).count();
     let of = |a: usize, b: usize| (a as f32 / b as f32).to_bits();
     [
         of(largest - 1, n - 1),
@@ -116,19 +130,19 @@ pub(crate) fn fractions(table: &[u32], n: usize) -> [u32; 3] {
     ]
 }
 
-/// Largest, contacted and pair fraction, as bits.
+/// Largest, contacted and pair fraction, as bits. The cutoff is not looked at.
 pub fn close(table: &[u32]) -> Answer<[u32; 3]> {
-    if table.len() < 2 {
+    if table.len() < HEAD {
         return Err(7);
     }
     let n = table[0] as usize;
-    if table.len() < 2 + 3 * n {
+    if table.len() < HEAD + 3 * n {
         return Err(7);
     }
     if n > COPIES || table_unsound(table, n) {
         return Err(9);
     }
-    if table[2 + 2 * n..2 + 3 * n].contains(&0) {
+    if table[HEAD + 2 * n..HEAD + 3 * n].contains(&0) {
         return Err(12);
     }
     Ok(fractions(table, n))

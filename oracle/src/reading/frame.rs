@@ -8,6 +8,7 @@ use tree::fill_tree;
 
 pub struct FrameInput<'a> {
     pub cell: [f32; 6],
+    pub cutoff: f32,
     pub solutes: &'a [f32],
     pub per: usize,
     pub indices: &'a [u32],
@@ -36,7 +37,7 @@ impl FrameInput<'_> {
     }
 }
 
-/// What a frame is, before any table is looked at: a refusal of 1, 2, 3, 4, 5 and 6 (blank coming between 4 and 5), blank
+/// What a frame is, before any table is looked at: a refusal of 1, 2, 3, 4, 5, 6 and 16 (blank coming between 4 and 5), blank
 /// (None), or its picks. The frame's rows and tree can be worked out from it once and used by several calls.
 pub fn frame_picks(f: &FrameInput) -> Answer<Option<(Vec<Vec<u32>>, Picked)>> {
     f.refusal()?;
@@ -52,6 +53,9 @@ pub fn frame_picks(f: &FrameInput) -> Answer<Option<(Vec<Vec<u32>>, Picked)>> {
     }
     if count(&kept) > PICKS {
         return Err(6);
+    }
+    if cutoff_refused(f.cutoff) {
+        return Err(16);
     }
     let atoms = points(f.solutes);
     let mols = kept
@@ -72,15 +76,17 @@ pub struct FrameWork {
 }
 
 impl FrameWork {
+    /// `cutoff` is one that is not refused, and `touch` is at it.
     pub fn new(
         kept: Vec<Vec<u32>>,
         picked: Picked,
+        cutoff: f32,
         waters: &[f32],
         touch: &mut dyn FnMut(&Picked, usize, usize) -> bool,
     ) -> FrameWork {
         let n = picked.n();
-        let mut scanned = vec![0; 2 + 3 * n];
-        open(&mut scanned, n).unwrap();
+        let mut scanned = vec![0; HEAD + 3 * n];
+        open(&mut scanned, n, cutoff).unwrap();
         for i in 0..n {
             scan_row(&mut scanned, n, i, &mut |i, j| touch(&picked, i, j));
         }
@@ -98,7 +104,7 @@ impl FrameWork {
 /// 7 of the whole frame: starts, picks, clusters, center order, water order of these lengths are too short.
 pub fn frame_short(kept: &[Vec<u32>], waters: usize, lengths: [usize; 5]) -> bool {
     let n = kept.len();
-    let needed = [n + 1, count(kept), 2 + 3 * n, n, waters];
+    let needed = [n + 1, count(kept), HEAD + 3 * n, n, waters];
     lengths.iter().zip(needed).any(|(&length, need)| length < need)
 }
 
@@ -124,7 +130,7 @@ pub fn frame(
         return Err(7);
     }
     write_lists(&w.kept, starts, picks);
-    clusters[..2 + 3 * n].copy_from_slice(&w.scanned);
+    clusters[..HEAD + 3 * n].copy_from_slice(&w.scanned);
     let four = fill_tree(&w.worked, points, t)?;
     let three = w.fractions();
     Ok([

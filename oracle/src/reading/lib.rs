@@ -1,6 +1,6 @@
 //! A second reading of the rules (docs/RULES.md): every call with its refusals, tables and answers, in plain Rust.
-//! Written from the paper behind them, not from the Rattle code; where the original decides (touch, joining, centers, dispersion, tree, leaf counts)
-//! the original's own functions are called. Float tables are held as bits. Assumes nothing of its input.
+//! Written from the paper behind them, not from the Rattle code; where the original decides (touch at 4.2, joining, centers, dispersion, tree, leaf
+//! counts) the original's own functions are called. Float tables are held as bits. Assumes nothing of its input.
 
 pub mod block;
 mod clusters;
@@ -10,7 +10,7 @@ mod select;
 mod spread;
 mod tree;
 
-pub use clusters::{close, open, row};
+pub use clusters::{HEAD, close, open, row};
 pub use frame::{FrameInput, FrameWork, frame, frame_picks, frame_short};
 pub use picked::Picked;
 pub use select::{select, select_all, select_by_words};
@@ -27,6 +27,9 @@ pub const COPIES: usize = 4_096;
 pub const PICKS: usize = 65_536;
 pub const BOUND: f32 = 65_536.0;
 pub const COORDINATE: f32 = 1_048_576.0;
+/// The original's cutoff, which the program `frame` uses, and the greatest that a call accepts.
+pub const CUTOFF: f32 = 4.2;
+pub const GREATEST_CUTOFF: f32 = 16.0;
 
 /// A refusal: its number alone.
 pub type Answer<T> = Result<T, u32>;
@@ -63,6 +66,11 @@ fn bound_over(cell: [f32; 6]) -> bool {
 
 fn coordinate_over(list: &[f32]) -> bool {
     list.iter().any(|c| c.is_finite() && c.abs() > COORDINATE)
+}
+
+/// 16.
+pub fn cutoff_refused(cutoff: f32) -> bool {
+    !(cutoff.is_finite() && cutoff > 0.0 && cutoff <= GREATEST_CUTOFF)
 }
 
 fn cell_invalid(cell: [f32; 6]) -> bool {

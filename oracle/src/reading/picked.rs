@@ -65,7 +65,26 @@ impl Picked {
         self.mols.len()
     }
 
-    pub fn touch(&self, i: usize, j: usize) -> bool {
-        rust::touch(&self.mols[i], &self.mols[j], &self.cell)
+    /// At 4.2 the original's own answer. The driver holds `near` against it there.
+    pub fn touch(&self, cutoff: f32, i: usize, j: usize) -> bool {
+        if cutoff.to_bits() == CUTOFF.to_bits() {
+            rust::touch(&self.mols[i], &self.mols[j], &self.cell)
+        } else {
+            self.near(cutoff, i, j)
+        }
+    }
+
+    /// The original's `solute_mols_touch`, with the caller's cutoff in the place of its constant. The product may be 0.
+    pub fn near(&self, cutoff: f32, i: usize, j: usize) -> bool {
+        let cutoff_d2 = cutoff * cutoff;
+        for &pa in &self.mols[i] {
+            for &pb in &self.mols[j] {
+                let d2 = self.cell.min_image(pb - pa).magnitude_squared();
+                if d2.is_finite() && d2 <= cutoff_d2 {
+                    return true;
+                }
+            }
+        }
+        false
     }
 }

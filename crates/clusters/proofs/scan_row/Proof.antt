@@ -22,10 +22,10 @@ use Rattle.clusters.proofs.scan_row.Statement.{statement}
 use Rattle.clusters.proofs.scan_row.Tie as tie
 
 abbrev Inv-loop : tie.InvT-loop
-Inv-loop cell solutes starts picks table₀ i n g s j₀ table j = Run (copiesTouch (given cell solutes [] starts picks)) n i table₀ table j
+Inv-loop cell cutoff solutes starts picks table₀ i n g s j₀ table j = Run (copiesTouch (given cell solutes [] starts picks) cutoff) n i table₀ table j
 
 abbrev μ-loop : tie.MeasureT-loop
-μ-loop cell solutes starts picks table₀ i n g s j₀ table j = n - j
+μ-loop cell cutoff solutes starts picks table₀ i n g s j₀ table j = n - j
 
 abbrev input : tie.Start Inv-loop μ-loop → Input
 input st = given (st .args .cell) (st .args .solutes .now) [] (st .args .starts .now) (st .args .picks .now)
@@ -50,15 +50,15 @@ abbrev startOf : tie.At-loop Inv-loop μ-loop → tie.Start Inv-loop μ-loop
 startOf c = start (entered (boxed c))
 
 sub-n : tie.Need-sub-n Inv-loop μ-loop
-sub-n c = omega (arith, accepted-lists _ (start c .pre .0) .number)
+sub-n c = omega (arith, accepted-lists _ (start c .pre .0 .0) .number)
 
 copy-picks-requires : tie.Need-copy-picks-requires Inv-loop μ-loop
-copy-picks-requires c κs = let st = start (c .before) in copy-part _ _ _ (accepted-lists _ (st .pre .0)) _ (st .pre .1 .2)
+copy-picks-requires c κs = let st = start (c .before) in copy-part _ _ _ (accepted-lists _ (st .pre .0 .0)) _ (st .pre .1 .2)
 
 span-of-requires : tie.Need-span-of-requires Inv-loop μ-loop
 span-of-requires c κs =
     let st = start (c .before .before) in
-    let ls = accepted-lists _ (st .pre .0) in
+    let ls = accepted-lists _ (st .pre .0 .0) in
     (rw (c .copy-picks .ensures) (copy-some _ _ _ ls _ (st .pre .1 .2)), rw (c .copy-picks .ensures) (copy-atoms _ _ _ ls _ (st .pre .1 .2)))
 
 -- a copy that a gate keeps apart from the box of copy i does not touch copy i
@@ -66,40 +66,40 @@ keeps :
     (c : tie.After-span-of Inv-loop μ-loop) → let st = start (entered c) in
     (m : ℕ) → m < copies (st .args .starts .now)
     → apartFrom (c .before .before .gates-of .result) (st .args .solutes .now) (st .args .starts .now) (st .args .picks .now) (c .span-of .result) m ≡ true
-    → copiesTouch (input st) (st .args .i) m ≡ false
+    → copiesTouch (input st) (st .args .cutoff) (st .args .i) m ≡ false
 keeps c m l e =
     let st = start (entered c) in
-    apart-copies _ _ _ _ _ _ (accepted-sound _ (st .pre .0)) (accepted-tested _ (st .pre .0)) (st .pre .1 .2) l
+    apart-copies _ _ _ _ _ _ _ (accepted-sound _ (st .pre .0 .0)) (accepted-tested _ (st .pre .0 .0) _ (st .pre .0 .1)) (st .pre .1 .2) l
     (c .before .before .gates-of .ensures) (c .span-of .ensures ∙ ap (spanOf _) (c .before .copy-picks .ensures)) refl e
 
 add-next-close : tie.Need-add-next-close Inv-loop μ-loop
-add-next-close c = let st = start (entered c) in omega (arith, accepted-lists _ (st .pre .0) .few, st .pre .1 .2)
+add-next-close c = let st = start (entered c) in omega (arith, accepted-lists _ (st .pre .0 .0) .few, st .pre .1 .2)
 
 next-close-requires : tie.Need-next-close-requires Inv-loop μ-loop
-next-close-requires c κs = let st = start (entered c) in (accepted-sound _ (st .pre .0), omega (arith, st .pre .1 .2))
+next-close-requires c κs = let st = start (entered c) in (accepted-sound _ (st .pre .0 .0), omega (arith, st .pre .1 .2))
 
 loop-holds : tie.Need-loop-holds Inv-loop μ-loop
 loop-holds c =
     let st = start (entered (c .before)) in
-    let ls = accepted-lists _ (st .pre .0) in
+    let ls = accepted-lists _ (st .pre .0 .0) in
     rw (c .next-close .ensures)
     (run-over _ (keeps (c .before)) _ _ (omega (arith, st .pre .1 .2)) (run-first (ls .few) (st .pre .1 .0) (st .pre .1 .2) (ready-of _ _ (ls .few) (st .pre .1 .1))))
 
 row-touch-requires : tie.Need-row-touch-requires Inv-loop μ-loop
 row-touch-requires c κs =
     let st = startOf (c .before) in
-    (accepted-sound _ (st .pre .0), ((boxed (c .before) .before .before .gates-of .ensures, accepted-tested _ (st .pre .0)), (st .pre .1 .2, c .loop-test .taken)))
+    (accepted-sound _ (st .pre .0 .0), ((boxed (c .before) .before .before .gates-of .ensures, accepted-tested _ (st .pre .0 .0) _ (st .pre .0 .1)), (st .pre .1 .2, c .loop-test .taken)))
 
 add-contact-requires : tie.Need-add-contact-requires Inv-loop μ-loop
 add-contact-requires c κs =
     let st = startOf (turn (c .before .before)) in
-    run-asks (turn (c .before .before) .loop .inv) (accepted-lists _ (st .pre .0) .few) (c .before .before .before .loop-test .taken)
+    run-asks (turn (c .before .before) .loop .inv) (accepted-lists _ (st .pre .0 .0) .few) (c .before .before .before .loop-test .taken)
 
 add-next-close-2 : tie.Need-add-next-close-2 Inv-loop μ-loop
-add-next-close-2 c = let st = startOf (turn (c .before)) in omega (arith, accepted-lists _ (st .pre .0) .few)
+add-next-close-2 c = let st = startOf (turn (c .before)) in omega (arith, accepted-lists _ (st .pre .0 .0) .few)
 
 next-close-requires-2 : tie.Need-next-close-requires-2 Inv-loop μ-loop
-next-close-requires-2 c κs = (accepted-sound _ (startOf (turn (c .before)) .pre .0), omega (arith, c .before .before .loop-test .taken))
+next-close-requires-2 c κs = (accepted-sound _ (startOf (turn (c .before)) .pre .0 .0), omega (arith, c .before .before .loop-test .taken))
 
 loop-less : tie.Need-loop-less Inv-loop μ-loop
 loop-less c =
@@ -119,7 +119,7 @@ loop-again c =
     (c .before .if1 .came)))
 
 set-mark-requires : tie.Need-set-mark-requires Inv-loop μ-loop
-set-mark-requires c κs = let st = startOf (c .before .before) in (accepted-lists _ (st .pre .0) .few, c .before .before .loop .inv .long, st .pre .1 .2)
+set-mark-requires c κs = let st = startOf (c .before .before) in (accepted-lists _ (st .pre .0 .0) .few, c .before .before .loop .inv .long, st .pre .1 .2)
 
 same-length : tie.Need-same-length Inv-loop μ-loop
 same-length c = search (needs, left (c .before .before) .before .loop .inv .same)

@@ -37,10 +37,10 @@ mixed c = c .before .before .before .before .before .before
 abbrev handed : tie.After-frame → Frame
 handed c =
     let a = start (centers (rooms c) .before .before .before) .args in
-    frameOf (a .cell) (a .solutes .now) (a .per) (a .indices .now) (a .waters .now)
+    frameOf (a .cell) (a .cutoff) (a .solutes .now) (a .per) (a .indices .now) (a .waters .now)
 
 abbrev left : tie.After-frame → List ℕ
-left c = c .frame .last .1 .1 .1 .1 .1 .1 .1 .1 .1 .1 .1 .1 .0
+left c = c .frame .last .1 .1 .1 .1 .1 .1 .1 .1 .1 .1 .1 .1 .1 .0
 
 -- what was answered and left, of the program's tables
 answered : (c : tie.After-frame) → (c .frame .result ≡ frameAnswer (handed c) programTables) × (left c ≡ frameAfter (handed c) programTables .leaves)

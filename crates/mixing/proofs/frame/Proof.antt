@@ -26,7 +26,7 @@ use Rattle.mixing.proofs.frame.Tie as tie
 
 -- ---- the frame and the tables at the start
 abbrev frame-of : tie.Start → Frame
-frame-of st = frameOf (st .args .cell) (st .args .solutes .now) (st .args .per) (st .args .indices .now) (st .args .waters .now)
+frame-of st = frameOf (st .args .cell) (st .args .cutoff) (st .args .solutes .now) (st .args .per) (st .args .indices .now) (st .args .waters .now)
 
 abbrev tables-of : tie.Start → FrameTables
 tables-of st =
@@ -130,10 +130,10 @@ picks-are c = ap (take (counts (tests c) .count .result .picks)) (picks-written 
 -- ---- what the cores answer, over these lists
 scanned-is : (c : tie.After-scan-all) →
     let st = first (tests (filled c)) in
-    c .scan-all .last .1 .1 .1 .1 .0 ≡ scanned (scanInput (frame-of st)) (st .args .clusters .now)
+    c .scan-all .last .1 .1 .1 .1 .1 .0 ≡ scanned (scanInput (frame-of st)) (st .args .cutoff) (st .args .clusters .now)
 scanned-is c =
     let st = first (tests (filled c)) in
-    c .scan-all .ensures ∙ (λ i. scanned (given (st .args .cell) (st .args .solutes .now) [] (starts-are (filled c) i) (picks-are (filled c) i)) (st .args .clusters .now))
+    c .scan-all .ensures ∙ (λ i. scanned (given (st .args .cell) (st .args .solutes .now) [] (starts-are (filled c) i) (picks-are (filled c) i)) (st .args .cutoff) (st .args .clusters .now))
 
 dispersed : (c : tie.After-dispersion-of) →
     let st = first (tests (filled (scans (c .before)))) in
@@ -192,7 +192,7 @@ scan-all-requires : tie.Need-scan-all-requires
 scan-all-requires c κs =
     let l = fills (c .before .before .before) in
     let s = tests l in
-    rw (starts-are l, picks-are l) (fine (frame-of (first s)) (tables-of (first s)) (passed s), cores-fit (frame-of (first s)) (tables-of (first s)) (passed s) .0 .1)
+    rw (starts-are l, picks-are l) ((fine (frame-of (first s)) (tables-of (first s)) (passed s), room (frame-of (first s)) (tables-of (first s)) (passed s) .reaches), cores-fit (frame-of (first s)) (tables-of (first s)) (passed s) .0 .1)
 
 fractions-requires : tie.Need-fractions-requires
 fractions-requires c κs =

@@ -16,13 +16,15 @@ abbrev filled : tie.After-gates-of → tie.After-fill-spans
 filled c = c .before .before
 
 fill-spans-requires : tie.Need-fill-spans-requires
-fill-spans-requires c κs = let st = start (c .before .before .before) in (accepted-sound _ (st .pre .0), omega (arith, accepted-lists _ (st .pre .0) .few))
+fill-spans-requires c κs = let st = start (c .before .before .before) in (accepted-sound _ (st .pre .0 .0), omega (arith, accepted-lists _ (st .pre .0 .0) .few))
 
 scan-rows-requires : tie.Need-scan-rows-requires
 scan-rows-requires c κs =
-    let st = start (entered (filled (c .before .before .before))) in
-    let n = accepted-lists _ (st .pre .0) .few in
-    (st .pre .0, (st .pre .1, ((c .before .before .before .gates-of .ensures, omega (arith, n), omega (arith, n)), filled (c .before .before .before) .fill-spans .ensures .0)))
+    let a = filled (c .before .before .before) in
+    let rooms = a .before .before in
+    let st = start (entered a) in
+    let n = accepted-lists _ (st .pre .0 .0) .few in
+    (st .pre .0, (st .pre .1, ((c .before .before .before .gates-of .ensures, omega (arith, n, rooms .before .box-room .ok, a .fill-spans .kept), omega (arith, n, rooms .flag-room .ok)), a .fill-spans .ensures .0)))
 
 pub scan-all-spec : {M : Type 1} → statement M
 scan-all-spec =

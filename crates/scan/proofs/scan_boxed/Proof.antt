@@ -15,10 +15,10 @@ use Rattle.scan.proofs.scan_boxed.Statement.{statement}
 use Rattle.scan.proofs.scan_boxed.Tie as tie
 
 abbrev Inv-loop : tie.InvT-loop
-Inv-loop cell g solutes starts picks room flags table₀ i n k₀ table k = Run (copiesTouch (given cell solutes [] starts picks)) n i table₀ table k
+Inv-loop cell cutoff g solutes starts picks room flags table₀ i n k₀ table k = Run (copiesTouch (given cell solutes [] starts picks) cutoff) n i table₀ table k
 
 abbrev μ-loop : tie.MeasureT-loop
-μ-loop cell g solutes starts picks room flags table₀ i n k₀ table k = n - k
+μ-loop cell cutoff g solutes starts picks room flags table₀ i n k₀ table k = n - k
 
 -- landmarks: from a place back to an earlier one
 abbrev start : tie.After-slice-known2 Inv-loop μ-loop → tie.Start Inv-loop μ-loop
@@ -43,33 +43,33 @@ abbrev startOf : tie.At-loop Inv-loop μ-loop → tie.Start Inv-loop μ-loop
 startOf c = start (entered (marked c))
 
 sub-n : tie.Need-sub-n Inv-loop μ-loop
-sub-n c = omega (arith, accepted-lists _ (start c .pre .0) .number)
+sub-n c = omega (arith, accepted-lists _ (start c .pre .0 .0) .number)
 
 mark-apart-requires : tie.Need-mark-apart-requires Inv-loop μ-loop
-mark-apart-requires c κs = let st = start (c .before) in (accepted-lists _ (st .pre .0) .few, st .pre .1 .0 .2, st .pre .1 .1 .0 .1, st .pre .1 .1 .0 .2)
+mark-apart-requires c κs = let st = start (c .before) in (accepted-lists _ (st .pre .0 .0) .few, st .pre .1 .0 .2, st .pre .1 .1 .0 .1, st .pre .1 .1 .0 .2)
 
 add-k : tie.Need-add-k Inv-loop μ-loop
-add-k c = let st = start (entered (c .before .before)) in omega (arith, accepted-lists _ (st .pre .0) .few, st .pre .1 .0 .2)
+add-k c = let st = start (entered (c .before .before)) in omega (arith, accepted-lists _ (st .pre .0 .0) .few, st .pre .1 .0 .2)
 
 loop-holds : tie.Need-loop-holds Inv-loop μ-loop
 loop-holds c =
     let st = start (entered (c .before .before)) in
-    let ls = accepted-lists _ (st .pre .0) in
+    let ls = accepted-lists _ (st .pre .0 .0) in
     run-first (ls .few) (st .pre .1 .0 .0) (st .pre .1 .0 .2) (ready-of _ _ (ls .few) (st .pre .1 .0 .1))
 
 marked-touch-requires : tie.Need-marked-touch-requires Inv-loop μ-loop
 marked-touch-requires c κs =
     let st = startOf (c .before .before) in
-    let h = st .pre .0 in
-    (accepted-sound _ h, ((st .pre .1 .1 .0 .0, accepted-tested _ h), (st .pre .1 .1 .1, ((st .pre .1 .0 .2, c .before .loop-test .taken, st .pre .1 .1 .0 .1), (omega (arith, st .pre .1 .1 .0 .2), rw (marked (c .before .before) .mark-apart .ensures) (flag-after _ _ _ _ _ _ (st .pre .1 .1 .0 .2) (c .before .before .loop .inv .ahead) (c .before .loop-test .taken)))))))
+    let h = st .pre .0 .0 in
+    (accepted-sound _ h, ((st .pre .1 .1 .0 .0, accepted-tested _ h _ (st .pre .0 .1)), (st .pre .1 .1 .1, ((st .pre .1 .0 .2, c .before .loop-test .taken, st .pre .1 .1 .0 .1), (omega (arith, st .pre .1 .1 .0 .2), rw (marked (c .before .before) .mark-apart .ensures) (flag-after _ _ _ _ _ _ (st .pre .1 .1 .0 .2) (c .before .before .loop .inv .ahead) (c .before .loop-test .taken)))))))
 
 add-contact-requires : tie.Need-add-contact-requires Inv-loop μ-loop
 add-contact-requires c κs =
     let st = startOf (turn (c .before .before)) in
-    run-asks (turn (c .before .before) .loop .inv) (accepted-lists _ (st .pre .0) .few) (going (c .before .before) .loop-test .taken)
+    run-asks (turn (c .before .before) .loop .inv) (accepted-lists _ (st .pre .0 .0) .few) (going (c .before .before) .loop-test .taken)
 
 add-k-2 : tie.Need-add-k-2 Inv-loop μ-loop
-add-k-2 c = let st = startOf (turn (c .before)) in omega (arith, accepted-lists _ (st .pre .0) .few)
+add-k-2 c = let st = startOf (turn (c .before)) in omega (arith, accepted-lists _ (st .pre .0 .0) .few)
 
 loop-again : tie.Need-loop-again Inv-loop μ-loop
 loop-again c =
@@ -80,7 +80,7 @@ loop-again c =
     (c .if1 .came)
 
 set-mark-requires : tie.Need-set-mark-requires Inv-loop μ-loop
-set-mark-requires c κs = let st = startOf (c .before .before) in (accepted-lists _ (st .pre .0) .few, c .before .before .loop .inv .long, st .pre .1 .0 .2)
+set-mark-requires c κs = let st = startOf (c .before .before) in (accepted-lists _ (st .pre .0 .0) .few, c .before .before .loop .inv .long, st .pre .1 .0 .2)
 
 same-length-2 : tie.Need-same-length-2 Inv-loop μ-loop
 same-length-2 c = search (needs, left (c .before .before) .before .loop .inv .same)

@@ -16,10 +16,10 @@ use Rattle.scan.proofs.scan_rows.Statement.{statement}
 use Rattle.scan.proofs.scan_rows.Tie as tie
 
 abbrev Inv-loop : tie.InvT-loop
-Inv-loop cell g solutes starts picks room flags₀ table₀ copies i₀ flags table i = Scan (given cell solutes [] starts picks) table₀ table i × (length flags ≡ length flags₀)
+Inv-loop cell cutoff g solutes starts picks room flags₀ table₀ copies i₀ flags table i = Scan (given cell solutes [] starts picks) cutoff table₀ table i × (length flags ≡ length flags₀)
 
 abbrev μ-loop : tie.MeasureT-loop
-μ-loop cell g solutes starts picks room flags₀ table₀ copies i₀ flags table i = copies - i
+μ-loop cell cutoff g solutes starts picks room flags₀ table₀ copies i₀ flags table i = copies - i
 
 abbrev input : tie.Start Inv-loop μ-loop → Input
 input st = given (st .args .cell) (st .args .solutes .now) [] (st .args .starts .now) (st .args .picks .now)
@@ -29,7 +29,7 @@ abbrev start : tie.After-slice-known2 Inv-loop μ-loop → tie.Start Inv-loop μ
 start c = c .before .before .before .before .before .before
 
 abbrev entered : tie.After-open-table Inv-loop μ-loop → tie.After-slice-known2 Inv-loop μ-loop
-entered c = c .before .before
+entered c = c .before .before .before
 
 abbrev opened : tie.At-loop Inv-loop μ-loop → tie.After-open-table Inv-loop μ-loop
 opened c = c .before .before .before
@@ -47,15 +47,15 @@ abbrev startOf : tie.At-loop Inv-loop μ-loop → tie.Start Inv-loop μ-loop
 startOf c = start (entered (opened c))
 
 sub-copies : tie.Need-sub-copies Inv-loop μ-loop
-sub-copies c = let st = start c in omega (arith, sound-lists _ _ _ (lists (input st) (st .pre .0)) .number)
+sub-copies c = let st = start c in omega (arith, sound-lists _ _ _ (lists (input st) (st .pre .0 .0)) .number)
 
 open-table-requires : tie.Need-open-table-requires Inv-loop μ-loop
-open-table-requires c κs = let st = start (c .before) in (few (input st) (st .pre .0), st .pre .1 .0)
+open-table-requires c κs = let st = start (c .before .before) in (few (input st) (st .pre .0 .0), st .pre .1 .0)
 
 loop-holds : tie.Need-loop-holds Inv-loop μ-loop
 loop-holds c =
     let st = start (entered (c .before .before)) in
-    (rw (c .before .before .open-table .ensures) (scan-first (input st) (st .pre .0) (st .args .table .now) (st .pre .1 .0)), refl)
+    (rw (c .before .before .open-table .ensures, c .before .before .before .to-bits32 .ensures) (scan-first (input st) (st .pre .0 .0) _ (st .pre .0 .1) (st .args .table .now) (st .pre .1 .0)), refl)
 
 scan-boxed-requires : tie.Need-scan-boxed-requires Inv-loop μ-loop
 scan-boxed-requires c κs =
@@ -66,7 +66,10 @@ scan-boxed-requires c κs =
 loop-again : tie.Need-loop-again Inv-loop μ-loop
 loop-again c =
     let st = startOf (turn (boxed c)) in
-    (rw (boxed c .scan-boxed .ensures, add-one) (scan-next (input st) (st .pre .0) (going (boxed c) .loop-test .taken) (turn (boxed c) .loop .inv .0)), search (needs, turn (boxed c) .loop .inv .1))
+    (rw (boxed c .scan-boxed .ensures, add-one) (scan-next (input st) (st .pre .0 .0) _ (st .pre .0 .1) (going (boxed c) .loop-test .taken) (turn (boxed c) .loop .inv .0)), search (needs, turn (boxed c) .loop .inv .1))
+
+add-i : tie.Need-add-i Inv-loop μ-loop
+add-i c = let st = startOf (turn (boxed c)) in omega (arith, going (boxed c) .loop-test .taken, few (input st) (st .pre .0 .0))
 
 same-length : tie.Need-same-length Inv-loop μ-loop
 same-length c = search (needs, c .before .loop .inv .1)
@@ -78,7 +81,7 @@ returns : tie.Need-returns Inv-loop μ-loop
 unfolding scanned
 returns c =
     let st = startOf (c .before) in
-    scan-done (input st) (st .pre .0) (st .args .table .now) (st .pre .1 .0) (opened (c .before) .open-table .ensures) (c .loop-test .left) (c .before .loop .inv .0)
+    scan-done (input st) (st .pre .0 .0) _ (st .pre .0 .1) (st .args .table .now) (st .pre .1 .0) (opened (c .before) .before .to-bits32 .ensures) (opened (c .before) .open-table .ensures) (c .loop-test .left) (c .before .loop .inv .0)
 
 pub scan-rows-spec : {M : Type 1} → statement M
 scan-rows-spec =
@@ -87,10 +90,11 @@ scan-rows-spec =
     Inv-loop
     μ-loop
     sub-copies
+    (λ c κs. search needs)
     open-table-requires
     loop-holds
     scan-boxed-requires
-    (λ c. search needs)
+    add-i
     (λ c. search needs)
     loop-again
     same-length

@@ -8,10 +8,10 @@ use Rattle.scans.proofs.scan.Statement.{statement}
 use Rattle.scans.proofs.scan.Tie as tie
 
 abbrev Inv-loop : tie.InvT-loop
-Inv-loop name xs starts picks table₀ n step i₀ k₀ table i k = (k ≤ n) × (i < n) × (length table ≡ length table₀)
+Inv-loop name expected cutoff xs starts picks table₀ n step i₀ k₀ table i k = (k ≤ n) × (i < n) × (length table ≡ length table₀)
 
 abbrev μ-loop : tie.MeasureT-loop
-μ-loop name xs starts picks table₀ n step i₀ k₀ table i k = n - k
+μ-loop name expected cutoff xs starts picks table₀ n step i₀ k₀ table i k = n - k
 
 pub scan-spec : {M : Type 1} → statement M
 scan-spec =

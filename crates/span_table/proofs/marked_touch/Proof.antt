@@ -15,7 +15,7 @@ returns c =
     let st = start (c .before) in
     let i = st .pre .1 .1 .1 .0 .0 in
     let j = st .pre .1 .1 .1 .0 .1 in
-    sym (apart-copies _ _ _ _ _ _ (st .pre .0) (st .pre .1 .0 .1) i j (st .pre .1 .0 .0) (st .pre .1 .1 .0 _ i) (st .pre .1 .1 .0 _ j) (flagged _ _ (st .pre .1 .1 .1 .1 .1) (c .if1 .taken)))
+    sym (apart-copies _ _ _ _ _ _ _ (st .pre .0) (st .pre .1 .0 .1) i j (st .pre .1 .0 .0) (st .pre .1 .1 .0 _ i) (st .pre .1 .1 .0 _ j) (flagged _ _ (st .pre .1 .1 .1 .1 .1) (c .if1 .taken)))
 
 copies-touch-requires : tie.Need-copies-touch-requires
 copies-touch-requires c κs = let st = start (c .before) in (st .pre .0, (st .pre .1 .0, (st .pre .1 .1 .0, st .pre .1 .1 .1 .0)))

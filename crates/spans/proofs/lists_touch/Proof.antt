@@ -15,17 +15,17 @@ use Rattle.spans.proofs.lists_touch.Statement.{statement}
 use Rattle.spans.proofs.lists_touch.Tie as tie
 
 abbrev Inv-loop : tie.InvT-loop
-Inv-loop cell g xs a b c found₀ i p j₀ found j =
-    (j ≤ length b) × (found ≡ false) × ((anyIn (near (extentOf cell) xs p) (drop j b) || anyPair (near (extentOf cell) xs) (drop (i + 1) a) b) ≡ anyPair (near (extentOf cell) xs) a b)
+Inv-loop cell cutoff g xs a b c found₀ i p j₀ found j =
+    (j ≤ length b) × (found ≡ false) × ((anyIn (near cutoff (extentOf cell) xs p) (drop j b) || anyPair (near cutoff (extentOf cell) xs) (drop (i + 1) a) b) ≡ anyPair (near cutoff (extentOf cell) xs) a b)
 
 abbrev μ-loop : tie.MeasureT-loop
-μ-loop cell g xs a b c found₀ i p j₀ found j = length b - j
+μ-loop cell cutoff g xs a b c found₀ i p j₀ found j = length b - j
 
 abbrev Inv-pairs : tie.InvT-pairs
-Inv-pairs cell g xs a b c found₀ i₀ found i = (i ≤ length a) × (found ≡ false) × (anyPair (near (extentOf cell) xs) (drop i a) b ≡ anyPair (near (extentOf cell) xs) a b)
+Inv-pairs cell cutoff g xs a b c found₀ i₀ found i = (i ≤ length a) × (found ≡ false) × (anyPair (near cutoff (extentOf cell) xs) (drop i a) b ≡ anyPair (near cutoff (extentOf cell) xs) a b)
 
 abbrev μ-pairs : tie.MeasureT-pairs
-μ-pairs cell g xs a b c found₀ i₀ found i = length a - i
+μ-pairs cell cutoff g xs a b c found₀ i₀ found i = length a - i
 
 -- landmarks: from a place back to an earlier one
 abbrev start : tie.At-pairs Inv-loop μ-loop Inv-pairs μ-pairs → tie.Start Inv-loop μ-loop Inv-pairs μ-pairs
@@ -63,10 +63,10 @@ loop-holds c =
     let pre = start (t .before) .pre in
     let l = t .pairs-test .taken in
     let v = t .before .pairs in
-    let test = near (extentOf (a .cell)) (a .xs .now) in
+    let test = near (a .cutoff) (extentOf (a .cell)) (a .xs .now) in
     let rest = anyPair test (drop (v .i + 1) (a .a .now)) (a .b .now) in
     let fp = ap (λ (k : ℕ). finitePoint (pointAt (a .xs .now) k)) (w .wide .ensures) ∙ pre .1 .0 _ l .1 in
-    let r = begins-pick _ _ (w .wide .result) _ _ _ _ _ (pre .0 .1) (pre .0 .3) fp (λ k h. pre .1 .1 k h .1) (pre .0 .0) (c .before .point-span .ensures ∙ ap pointSpan (c .before .before .point .ensures)) (pre .0 .2) (c .begin .ensures) in
+    let r = begins-pick _ _ _ (w .wide .result) _ _ _ _ _ (pre .0 .1) (pre .0 .3) fp (λ k h. pre .1 .1 k h .1) (pre .0 .0) (c .before .point-span .ensures ∙ ap pointSpan (c .before .before .point .ensures)) (pre .0 .2) (c .begin .ensures) in
     (r .0, v .inv .1, ap (_|| rest) (r .1) ∙ ap (λ (k : ℕ). anyIn (test k) (a .b .now) || rest) (w .wide .ensures) ∙ sym (pair-more _ _ _ _ l) ∙ v .inv .2)
 
 mul-wide-2 : tie.Need-mul-wide-2 Inv-loop μ-loop Inv-pairs μ-pairs
@@ -93,11 +93,11 @@ loop-again c =
     let l = inner (c .before .before) .before in (
       omega arith,
       l .loop .inv .1,
-      any-skip (near _ _ _) _ _ _ (inner (c .before .before) .loop-test .taken) (ap (near _ _ _) (sym (c .before .before .wide2 .ensures)) ∙ sym (c .before .near .ensures) ∙ c .if1 .left) ∙ l .loop .inv .2,
+      any-skip (near _ _ _ _) _ _ _ (inner (c .before .before) .loop-test .taken) (ap (near _ _ _ _) (sym (c .before .before .wide2 .ensures)) ∙ sym (c .before .near .ensures) ∙ c .if1 .left) ∙ l .loop .inv .2,
     )
 
 add-i : tie.Need-add-i Inv-loop μ-loop Inv-pairs μ-pairs
-add-i c = omega arith
+add-i c = omega (arith, startOf (c .before) .good)
 
 pairs-less : tie.Need-pairs-less Inv-loop μ-loop Inv-pairs μ-pairs
 pairs-less c = omega arith
@@ -115,7 +115,7 @@ returns c = c .before .pairs .inv .1 ∙ sym (pair-none _ _ _ _ (c .pairs-test .
 returns-2 : tie.Need-returns-2 Inv-loop μ-loop Inv-pairs μ-pairs
 returns-2 c =
     let l = inner (c .before .before) .before in
-    any-hit (near _ _ _) _ _ _ (inner (c .before .before) .loop-test .taken) (ap (near _ _ _) (sym (c .before .before .wide2 .ensures)) ∙ sym (c .before .near .ensures) ∙ c .if1 .taken) ∙ l .loop .inv .2
+    any-hit (near _ _ _ _) _ _ _ (inner (c .before .before) .loop-test .taken) (ap (near _ _ _ _) (sym (c .before .before .wide2 .ensures)) ∙ sym (c .before .near .ensures) ∙ c .if1 .taken) ∙ l .loop .inv .2
 
 pub lists-touch-spec : {M : Type 1} → statement M
 lists-touch-spec =

@@ -24,6 +24,7 @@ fn listed() -> Block {
 fn nodes(b: &Block) -> usize {
     let input = FrameInput {
         cell: b.cell,
+        cutoff: reading::CUTOFF,
         solutes: &b.solutes,
         per: b.per as usize,
         indices: &b.indices,

@@ -7,39 +7,50 @@ use super::{Checked, Checker, WHOLE_ORIGINAL};
 use crate::case::Lent;
 use crate::library;
 use crate::stats::{BLANK, Call};
+use dynamics::SimBox;
+use lin_alg::f32::Vec3;
 use original::properties;
 use original::properties::opened::access as rust;
-use reading::{Answer, FrameInput, FrameWork, Picked};
+use reading::{Answer, CUTOFF, FrameInput, FrameWork, HEAD, Picked};
 
 impl Checker<'_> {
-    pub(super) fn frame(&mut self, touches: Option<&mut Touches>) -> Checked {
+    /// The whole frame at each of its cutoffs.
+    pub(super) fn frames(&mut self, touches: Option<&mut Touches>) -> Checked {
+        let mut own = Touches::new(0);
+        let touches = touches.unwrap_or(&mut own);
+        for &cutoff in &self.case.frames {
+            self.frame(cutoff, touches)?;
+        }
+        Ok(())
+    }
+
+    fn frame(&mut self, cutoff: f32, touches: &mut Touches) -> Checked {
         let case = self.case;
         let input = FrameInput {
             cell: case.cell,
+            cutoff,
             solutes: &case.solutes,
             per: case.per,
             indices: &case.indices,
             waters: &case.waters,
         };
-        let mut own = Touches::new(0);
-        let touches = touches.unwrap_or(&mut own);
         let mut ask = |p: &Picked, i: usize, j: usize| match touches.n {
-            0 => p.touch(i, j),
-            _ => touches.ask(p, i, j),
+            0 => p.touch(cutoff, i, j),
+            _ => touches.ask(p, cutoff, i, j),
         };
         let work: Answer<Option<FrameWork>> = reading::frame_picks(&input).map(|some| {
-            some.map(|(kept, picked)| FrameWork::new(kept, picked, &case.waters, &mut ask))
+            some.map(|(kept, picked)| FrameWork::new(kept, picked, cutoff, &case.waters, &mut ask))
         });
         if self.wants(Call::Original) {
-            self.original_agrees(&work)?;
+            self.original_agrees(cutoff, &work)?;
         }
         if self.wants(Call::Frame) {
-            self.whole_frame(&work)?;
+            self.whole_frame(cutoff, &work)?;
         }
         Ok(())
     }
 
-    pub(super) fn whole_frame(&mut self, work: &Answer<Option<FrameWork>>) -> Checked {
+    fn whole_frame(&mut self, cutoff: f32, work: &Answer<Option<FrameWork>>) -> Checked {
         let case = self.case;
         let some = work.as_ref().ok().and_then(Option::as_ref);
         let copies = some.map_or(3, |w| w.kept.len());
@@ -47,7 +58,7 @@ impl Checker<'_> {
         let nodes = some.map_or(3, |w| w.worked.built.nodes);
         let mut starts = Pair::new(case, "starts", Lent::Starts, copies + 1);
         let mut picks = Pair::new(case, "picks", Lent::Picks, n);
-        let mut clusters = Pair::new(case, "clusters", Lent::Clusters, 2 + 3 * copies);
+        let mut clusters = Pair::new(case, "clusters", Lent::Clusters, HEAD + 3 * copies);
         let mut center_order = Pair::new(case, "center order", Lent::CenterOrder, copies);
         let waters = reading::finite_waters(&case.waters);
         let mut water_order = Pair::new(case, "water order", Lent::WaterOrder, waters);
@@ -72,6 +83,7 @@ impl Checker<'_> {
         let expected = settle(&answer, &mut answers);
         let found = library::frame(
             &self.with(&[], &[]),
+            cutoff,
             case.per,
             &case.indices,
             &mut library::FrameTables {
@@ -91,7 +103,8 @@ impl Checker<'_> {
         let tables = [
             &starts, &picks, &clusters, &center_order, &water_order, &records, &boxes, &leaves, &answers,
         ];
-        self.compare(Call::Frame, "", expected, found, &tables)?;
+        self.stats.count_cutoff(Call::Frame, cutoff);
+        self.compare(Call::Frame, &format!(" at {cutoff:?}"), expected, found, &tables)?;
         if matches!(answer, Ok(a) if a[0] == 1) {
             // Counted as blank instead of as a success.
             *self.stats.answers.get_mut(&Call::Frame).unwrap().get_mut(&0).unwrap() -= 1;
@@ -108,8 +121,9 @@ impl Checker<'_> {
         Ok(())
     }
 
-    /// The second reading's frame against the unchanged original's own numbers.
-    pub(super) fn original_agrees(&mut self, work: &Answer<Option<FrameWork>>) -> Checked {
+    /// The second reading's frame against the unchanged original's own numbers. At another cutoff than 4.2 the original's three
+    /// fractions are of other contacts, and only what does not depend on it is compared.
+    fn original_agrees(&mut self, cutoff: f32, work: &Answer<Option<FrameWork>>) -> Checked {
         let case = self.case;
         let Ok(some) = work else { return Ok(()) };
         let cell = reading::simbox(case.cell);
@@ -124,15 +138,23 @@ impl Checker<'_> {
             }
         };
         let n: usize = some.as_ref().map_or(0, |w| w.kept.iter().map(Vec::len).sum());
+        let same_cutoff = some.is_none() || cutoff.to_bits() == CUTOFF.to_bits();
         let found = match some {
             Some(w) if n * (n + waters.len()) > WHOLE_ORIGINAL => {
-                let [largest, contacted, pair] = rust::fractions(&w.picked.mols, &w.picked.cell);
+                let fractions = if same_cutoff { rust::fractions(&w.picked.mols, &w.picked.cell) } else { [0.0; 3] };
+                let [largest, contacted, pair] = fractions;
                 [f32::from_bits(w.dispersion), largest, contacted, pair]
             }
-            _ => properties::diagnostics(&solutes, case.per, &indices, &waters, &cell),
+            _ => {
+                if let Some(w) = some {
+                    self.touch_agrees(&w.picked)?;
+                }
+                properties::diagnostics(&solutes, case.per, &indices, &waters, &cell)
+            }
         };
         self.stats.count(Call::Original, 0);
-        if found.map(f32::to_bits) != expected {
+        let compared = if same_cutoff { 4 } else { 1 };
+        if found.map(f32::to_bits)[..compared] != expected[..compared] {
             return self.differ(
                 Call::Original,
                 format!("the original's dispersion and fractions {found:?}, the reading's bits {expected:08X?}"),
@@ -145,6 +167,26 @@ impl Checker<'_> {
                 Call::Original,
                 format!("the original's cell list score {score:?}, from the leaf table {of_leaves:?}"),
             );
+        }
+        Ok(())
+    }
+
+    /// The touch that stands behind other cutoffs, whatever the case's: at 4.2 against the original's, and at 8.4 and 2.1 against the
+    /// original's on the frame at half and at twice its size, for a power of two changes no rounding.
+    fn touch_agrees(&self, p: &Picked) -> Checked {
+        for size in [1.0, 0.5, 2.0] {
+            let cutoff = CUTOFF / size;
+            let cell = SimBox::new(p.cell.bounds_low * size, p.cell.bounds_high * size);
+            let mols: Vec<Vec<Vec3>> = p.mols.iter().map(|mol| mol.iter().map(|&atom| atom * size).collect()).collect();
+            for i in 0..p.n() {
+                for j in i + 1..p.n() {
+                    let (ours, original) = (p.near(cutoff, i, j), rust::touch(&mols[i], &mols[j], &cell));
+                    if ours != original {
+                        let what = format!("copies {i} and {j} touch at {cutoff}: the original says {original}, the reading {ours}");
+                        return self.differ(Call::Original, what);
+                    }
+                }
+            }
         }
         Ok(())
     }

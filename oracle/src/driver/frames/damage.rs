@@ -6,11 +6,11 @@ use super::{around, random};
 use crate::case::{Case, Lent};
 use crate::rng::Rng;
 
-pub fn damaged(rng: &mut Rng) -> Case {
-    let mut c = random(rng);
+pub fn damaged(reach: f32, rng: &mut Rng) -> Case {
+    let mut c = random(reach, rng);
     // Mostly small frames, so that many are tried.
     while c.atoms() > 60 {
-        c = random(rng);
+        c = random(reach, rng);
     }
     c.shape = "damaged:".into();
     c.table = None;
@@ -121,7 +121,7 @@ fn short_table(c: &mut Case, rng: &mut Rng) -> &'static str {
 fn row_number(c: &mut Case, rng: &mut Rng) -> &'static str {
     let at = rng.below(c.rows.len() + 1);
     let i = rng.pick(&[c.rows.len(), 4_095, 4_096, usize::MAX, 1 << 32, 1 << 63]);
-    c.rows.insert(at, i);
+    c.rows.insert(at, i.into());
     "a row past the copies"
 }
 

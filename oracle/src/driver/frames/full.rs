@@ -2,8 +2,9 @@
 
 use super::parts::{Spread, copies, cube, point, points};
 use super::{around, halves};
-use crate::case::{Case, Lent};
+use crate::case::{Case, Lent, RowCall};
 use crate::rng::Rng;
+use reading::CUTOFF;
 
 /// What a round of the group holds, with about how many seconds a case takes.
 pub const FULL: [(&str, u64); 16] = [
@@ -25,10 +26,10 @@ pub const FULL: [(&str, u64); 16] = [
     ("4,096 copies of 16 picks, 65,536 waters", 150),
 ];
 
-pub fn full(number: u64, rng: &mut Rng) -> Option<Case> {
+pub fn full(number: u64, reach: f32, rng: &mut Rng) -> Case {
     let at = number as usize % FULL.len();
     let cell = cube(0.0, 160.0);
-    let plain = |n: usize, per: usize, rng: &mut Rng| copies(n, per, &cell, Spread::Inside, 0, 0, rng);
+    let plain = |n: usize, per: usize, rng: &mut Rng| copies(n, per, &cell, Spread::Inside, 0, 0, reach, rng);
     // Now and then a water is not finite; else there are as many finite ones as may be.
     let spoiled = if at % 2 == 0 { 50 } else { 0 };
     let waters = |n: usize, rng: &mut Rng| points(n, &cell, Spread::Mixed, spoiled, rng);
@@ -47,8 +48,8 @@ pub fn full(number: u64, rng: &mut Rng) -> Option<Case> {
             c.solutes = plain(4_096, 1, rng);
             c.waters = waters(5_000, rng);
         }
-        3 => c = Case { shape: c.shape, ..halves::frame(4_096, 1, 3_000, rng) },
-        4 => c = Case { shape: c.shape, ..halves::frame(512, 8, 3_000, rng) },
+        3 => c = Case { shape: c.shape, ..halves::frame(4_096, 1, 3_000, reach, rng) },
+        4 => c = Case { shape: c.shape, ..halves::frame(512, 8, 3_000, reach, rng) },
         5 => {
             c.solutes = [80.5, 3.25, 159.9].repeat(4_096);
             c.waters = waters(65_536, rng);
@@ -56,14 +57,15 @@ pub fn full(number: u64, rng: &mut Rng) -> Option<Case> {
         6 | 7 => {
             // In the original's scan each row joins the next copy: chains without rank get long.
             c.cell = [0.0, 0.0, 0.0, 60_000.0, 30.0, 30.0];
+            let step = if (1.0..15.0).contains(&reach) { reach / CUTOFF * 4.0 } else { 4.0 };
             for i in 0..4_096 {
                 let x = if at == 6 { i } else { 4_095 - i };
-                c.solutes.extend([4.0 * x as f32, 1.0, 29.0]);
+                c.solutes.extend([step * x as f32, 1.0, 29.0]);
             }
             c.waters = points(2_000, &c.cell, Spread::Inside, 0, rng);
         }
         8 => {
-            c.solutes = copies(4_096, 1, &cell, Spread::Mixed, 3, 0, rng);
+            c.solutes = copies(4_096, 1, &cell, Spread::Mixed, 3, 0, reach, rng);
             c.waters = waters(65_536, rng);
         }
         9 => {
@@ -78,7 +80,7 @@ pub fn full(number: u64, rng: &mut Rng) -> Option<Case> {
         10 => {
             c.per = 4;
             c.cell = cube(-3.0, 3.0);
-            c.solutes = copies(256, 4, &c.cell, Spread::Around, 2, 0, rng);
+            c.solutes = copies(256, 4, &c.cell, Spread::Around, 2, 0, reach, rng);
             c.indices = (0..256).map(|i| i % 4).collect();
             c.waters = points(1_000, &c.cell, Spread::Mixed, 50, rng);
         }
@@ -90,7 +92,7 @@ pub fn full(number: u64, rng: &mut Rng) -> Option<Case> {
         12 => {
             c.per = 16;
             c.cell = cube(0.0, 10.0);
-            c.solutes = copies(4_096, 16, &c.cell, Spread::Inside, 9, 0, rng);
+            c.solutes = copies(4_096, 16, &c.cell, Spread::Inside, 9, 0, reach, rng);
             c.waters = points(5_000, &c.cell, Spread::Inside, 0, rng);
         }
         13 => {
@@ -111,7 +113,7 @@ pub fn full(number: u64, rng: &mut Rng) -> Option<Case> {
     }
     let mut c = around(c, rng);
     let n = c.atoms() / c.per;
-    c.rows = (0..n).collect();
+    c.rows = (0..n).map(RowCall::from).collect();
     if at == 7 {
         c.rows.reverse();
     }
@@ -125,5 +127,5 @@ pub fn full(number: u64, rng: &mut Rng) -> Option<Case> {
     if n > reading::COPIES {
         c.rows = vec![];
     }
-    Some(c)
+    c
 }

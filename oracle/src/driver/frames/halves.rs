@@ -5,6 +5,7 @@ use super::parts::{EPS, indices, limit, spoil};
 use crate::case::Case;
 use crate::rng::Rng;
 use lin_alg::f32::Vec3;
+use reading::CUTOFF;
 
 /// At most four ulps up or down, none or one more often than not.
 fn ulps(x: f32, rng: &mut Rng) -> f32 {
@@ -13,12 +14,15 @@ fn ulps(x: f32, rng: &mut Rng) -> f32 {
     (0..n).fold(x, |x, _| if up { x.next_up() } else { x.next_down() })
 }
 
-/// Round, of any bits, tiny, large, or such that half of it on one, two or three axes is the cutoff.
-fn extent(rng: &mut Rng) -> f32 {
+/// Round, of any bits, tiny, large, or such that half of it on one, two or three axes is the cutoff `reach`, or 4.2 if that is tiny.
+fn extent(reach: f32, rng: &mut Rng) -> f32 {
     let any = rng.unit();
     match rng.below(10) {
         0..=2 => rng.pick(&[1.0, 8.0, 10.0, 16.0, 53.0, 125.0]),
-        3..=4 => ulps(rng.pick(&[8.4, 5.939697, 4.8497424]), rng),
+        3..=4 => {
+            let side = 2.0 * if reach > 1e-3 { reach } else { CUTOFF };
+            ulps(rng.pick(&[side, side / 2.0_f32.sqrt(), side / 3.0_f32.sqrt()]), rng)
+        }
         5..=6 => 1.0 + 19.0 * any,
         7 => 20.0 + 130.0 * any,
         8 => rng.pick(&[EPS.next_up(), 1.5 * EPS, 1e-6, 1e-3, 0.001 + any]),
@@ -27,11 +31,11 @@ fn extent(rng: &mut Rng) -> f32 {
 }
 
 /// A valid cell: all axes alike, or each of its own.
-fn cell(rng: &mut Rng) -> [f32; 6] {
+fn cell(reach: f32, rng: &mut Rng) -> [f32; 6] {
     let mut c = [0.0; 6];
-    let (cube, e) = (rng.one_in(2), extent(rng));
+    let (cube, e) = (rng.one_in(2), extent(reach, rng));
     for axis in 0..3 {
-        let e = if cube { e } else { extent(rng) };
+        let e = if cube { e } else { extent(reach, rng) };
         let low = match rng.below(4) {
             0 => -e / 2.0,
             1 if (1.0..1_000.0).contains(&e) => rng.pick(&[-0.0, 0.25, -2.5, 8.0, -100.0]),
@@ -120,17 +124,17 @@ fn waters(n: usize, cell: &[f32; 6], solutes: &[f32], rng: &mut Rng) -> Vec<f32>
 }
 
 /// So many copies, atoms of each and waters, in a cell of its own.
-pub fn frame(n: usize, per: usize, w: usize, rng: &mut Rng) -> Case {
-    let cell = cell(rng);
+pub fn frame(n: usize, per: usize, w: usize, reach: f32, rng: &mut Rng) -> Case {
+    let cell = cell(reach, rng);
     let solutes = solutes(n, per, &cell, rng);
     let waters = waters(w, &cell, &solutes, rng);
     Case { shape: "halves of extents".into(), cell, solutes, per, waters, ..Case::default() }
 }
 
 /// A frame of the group `small`; one copy alone has the whole cell for its leaf.
-pub fn small(rng: &mut Rng) -> Case {
+pub fn small(reach: f32, rng: &mut Rng) -> Case {
     let per = rng.pick(&[1, 1, 1, 2, 2, 3]);
-    let mut c = frame(rng.between(1, 8), per, rng.between(1, 8), rng);
+    let mut c = frame(rng.between(1, 8), per, rng.between(1, 8), reach, rng);
     if rng.one_in(4) {
         c.indices = indices(per, rng);
     }

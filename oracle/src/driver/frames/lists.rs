@@ -1,8 +1,9 @@
 //! Damaged pick lists and cluster tables, and sound ones that no call gives.
 
 use super::parts::rows;
-use crate::case::Case;
+use crate::case::{Case, RowCall};
 use crate::rng::Rng;
+use reading::{CUTOFF, HEAD};
 
 /// Sound lists of the frame as it is now, or small ones.
 fn sound_lists(c: &Case) -> (Vec<u32>, Vec<u32>) {
@@ -67,7 +68,7 @@ pub fn pick_lists(c: &mut Case, rng: &mut Rng) -> &'static str {
             let n = rng.pick(&[4_096, 4_097]);
             starts = (0..=n).collect();
             picks = vec![rng.below(c.atoms()) as u32; n as usize];
-            c.rows = vec![0, 4_095, 4_096];
+            c.rows = [0, 4_095, 4_096].map(RowCall::from).to_vec();
             "4,096 copies or one more"
         }
         11 if c.atoms() > 0 && rng.one_in(10) => {
@@ -106,7 +107,7 @@ pub fn cluster_table(c: &mut Case, rng: &mut Rng) -> &'static str {
     let (starts, _) = c.lists.clone().unwrap_or_else(|| sound_lists(c));
     let n = starts.len().saturating_sub(1).min(reading::COPIES);
     let small = n.max(1) as u32;
-    let mut t = vec![n as u32, 0];
+    let mut t = vec![n as u32, 0, CUTOFF.to_bits()];
     match rng.below(3) {
         // A forest: every parent is lower, or every parent is higher, or each its own.
         0 => t.extend((0..n).map(|i| rng.below(i + 1) as u32)),
@@ -117,7 +118,7 @@ pub fn cluster_table(c: &mut Case, rng: &mut Rng) -> &'static str {
     t.extend((0..n).map(|_| rng.pick(&[0, 0, 1])));
     t[1] = rng.below(n * n.saturating_sub(1) / 2 + 1) as u32;
     if rng.one_in(8) {
-        t.truncate(2 + 2 * n);
+        t.truncate(HEAD + 2 * n);
         t.extend(vec![1; n]);
     }
     let what = match rng.below(14) {
@@ -126,36 +127,36 @@ pub fn cluster_table(c: &mut Case, rng: &mut Rng) -> &'static str {
             "the table's n is another"
         }
         1 if n > 0 => {
-            t[2 + rng.below(n)] = rng.pick(&[small, small + 1, u32::MAX]);
+            t[HEAD + rng.below(n)] = rng.pick(&[small, small + 1, u32::MAX]);
             "a parent is not below n"
         }
         2 if n > 1 => {
             let (a, b) = (rng.below(n), rng.below(n));
-            t[2 + a] = b as u32;
-            t[2 + b] = a as u32;
+            t[HEAD + a] = b as u32;
+            t[HEAD + b] = a as u32;
             "perhaps a cycle of two"
         }
         3 if n > 2 => {
             for i in 0..n {
-                t[2 + i] = ((i + 1) % n) as u32;
+                t[HEAD + i] = ((i + 1) % n) as u32;
             }
             if rng.one_in(2) {
-                t[2 + rng.below(n)] = rng.below(n) as u32;
+                t[HEAD + rng.below(n)] = rng.below(n) as u32;
             }
             "a ring, perhaps with a way out"
         }
         4 if n > 0 => {
             for i in 0..n {
-                t[2 + i] = rng.below(n) as u32;
+                t[HEAD + i] = rng.below(n) as u32;
             }
             "parents are any copies"
         }
         5 if n > 0 => {
-            t[2 + n + rng.below(n)] = rng.pick(&[small, small + 1, u32::MAX]);
+            t[HEAD + n + rng.below(n)] = rng.pick(&[small, small + 1, u32::MAX]);
             "a degree is not below n"
         }
         6 if n > 0 => {
-            t[2 + 2 * n + rng.below(n)] = rng.pick(&[2, 3, u32::MAX]);
+            t[HEAD + 2 * n + rng.below(n)] = rng.pick(&[2, 3, u32::MAX]);
             "a mark is above 1"
         }
         7 => {
@@ -167,13 +168,13 @@ pub fn cluster_table(c: &mut Case, rng: &mut Rng) -> &'static str {
             "the table is cut off"
         }
         9 => {
-            t = (0..rng.below(3 * n + 8)).map(|_| rng.pick(&[0, 1, 2, small, u32::MAX])).collect();
+            t = (0..rng.below(3 * n + 9)).map(|_| rng.pick(&[0, 1, 2, small, u32::MAX])).collect();
             "the table is anything"
         }
         11 if rng.one_in(6) => {
             // Long enough and sound in every entry, but for its n.
             let n = rng.pick(&[4_096, 4_097, 5_000]);
-            t = vec![n, 0];
+            t = vec![n, 0, CUTOFF.to_bits()];
             t.extend(0..n);
             t.extend(vec![0; n as usize]);
             t.extend(vec![1; n as usize]);
@@ -182,7 +183,7 @@ pub fn cluster_table(c: &mut Case, rng: &mut Rng) -> &'static str {
         10 if n > 0 => {
             // Chains as long as they get: sound, and slow for a test that walks each to its end.
             for i in 0..n {
-                t[2 + i] = i.saturating_sub(1) as u32;
+                t[HEAD + i] = i.saturating_sub(1) as u32;
             }
             "one chain"
         }

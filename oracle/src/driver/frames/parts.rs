@@ -1,5 +1,6 @@
 //! What frames are made of: cells, points, copies, index lists, rows, room in the tables.
 
+use crate::case::RowCall;
 use crate::rng::Rng;
 
 // Cells.
@@ -11,7 +12,7 @@ pub fn cube(low: f32, high: f32) -> [f32; 6] {
 }
 
 /// A valid cell of some shape.
-pub fn cell(rng: &mut Rng) -> [f32; 6] {
+pub fn cell(reach: f32, rng: &mut Rng) -> [f32; 6] {
     match rng.below(14) {
         0..=2 => cube(0.0, rng.pick(&[8.0, 10.0, 16.0, 20.0, 32.0, 64.0])),
         3..=4 => {
@@ -28,12 +29,12 @@ pub fn cell(rng: &mut Rng) -> [f32; 6] {
         }
         8 => cube(0.0, rng.float(5.0, 200.0)),
         9 => cube(-0.0, rng.float(5.0, 50.0)),
-        _ => odd_cell(rng),
+        _ => odd_cell(reach, rng),
     }
 }
 
-/// Flat, tiny, huge, far off and few-ulp cells, valid all of them.
-pub fn odd_cell(rng: &mut Rng) -> [f32; 6] {
+/// Flat, tiny, huge, far off and few-ulp cells, and those that the cutoff `reach` just fits in; valid all of them.
+pub fn odd_cell(reach: f32, rng: &mut Rng) -> [f32; 6] {
     let mut c = cube(0.0, rng.pick(&[10.0, 16.0, 30.0]));
     match rng.below(7) {
         0 => {
@@ -70,7 +71,7 @@ pub fn odd_cell(rng: &mut Rng) -> [f32; 6] {
             c = cube(low, low + rng.float(4.0, 500.0));
         }
         _ => {
-            let side = rng.pick(&[8.4, 8.400001, 4.2, 12.6, 2.1]);
+            let side = rng.pick(&[2.0 * reach, (2.0 * reach).next_up(), reach, 12.6, reach / 2.0]);
             c = cube(0.0, side);
         }
     }
@@ -150,15 +151,15 @@ pub fn limit(p: [f32; 3]) -> [f32; 3] {
     p.map(|x| x.clamp(-1_048_576.0, 1_048_576.0))
 }
 
-/// A point near `from`, at about the cutoff from it as often as not.
-pub fn neighbour(from: [f32; 3], rng: &mut Rng) -> [f32; 3] {
+/// A point near `from`, at about the cutoff `reach` from it as often as not.
+pub fn neighbour(from: [f32; 3], reach: f32, rng: &mut Rng) -> [f32; 3] {
     let mut d = [0.0f32; 3];
     match rng.below(4) {
-        0 => d[rng.below(3)] = nudge(rng.pick(&[4.2, -4.2]), rng),
+        0 => d[rng.below(3)] = nudge(rng.pick(&[reach, -reach]), rng),
         1 => {
             let raw = [rng.float(-1.0, 1.0), rng.float(-1.0, 1.0), rng.float(-1.0, 1.0)];
             let size = raw.iter().map(|x| x * x).sum::<f32>().sqrt().max(1e-3);
-            d = raw.map(|x| x * (4.2 / size));
+            d = raw.map(|x| x * (reach / size));
         }
         2 => d = [rng.float(-3.0, 3.0), rng.float(-3.0, 3.0), rng.float(-3.0, 3.0)],
         _ => d = [rng.float(-0.5, 0.5), rng.float(-0.5, 0.5), rng.float(-0.5, 0.5)],
@@ -185,6 +186,7 @@ pub fn points(n: usize, cell: &[f32; 6], spread: Spread, spoiled: usize, rng: &m
 }
 
 /// `copies` copies of `per` atoms, each a blob; bases by the spread, or near the base before.
+#[allow(clippy::too_many_arguments)]
 pub fn copies(
     copies: usize,
     per: usize,
@@ -192,13 +194,14 @@ pub fn copies(
     spread: Spread,
     crowded: usize,
     spoiled: usize,
+    reach: f32,
     rng: &mut Rng,
 ) -> Vec<f32> {
     let mut list = Vec::new();
     let mut base = point(cell, spread, rng);
     let width = rng.pick(&[0.0, 0.5, 1.0, 3.0]);
     for _ in 0..copies {
-        base = if rng.below(10) < crowded { neighbour(base, rng) } else { point(cell, spread, rng) };
+        base = if rng.below(10) < crowded { neighbour(base, reach, rng) } else { point(cell, spread, rng) };
         for atom in 0..per {
             let mut p = base;
             if atom > 0 {
@@ -231,7 +234,7 @@ pub fn indices(per: usize, rng: &mut Rng) -> Vec<u32> {
 }
 
 /// Rows in some order, some of them twice or out of range.
-pub fn rows(n: usize, rng: &mut Rng) -> Vec<usize> {
+pub fn rows(n: usize, rng: &mut Rng) -> Vec<RowCall> {
     let mut list: Vec<usize> = (0..n).collect();
     match rng.below(5) {
         0 | 1 => {}
@@ -252,7 +255,7 @@ pub fn rows(n: usize, rng: &mut Rng) -> Vec<usize> {
     if rng.one_in(6) {
         list.truncate(rng.below(list.len() + 1));
     }
-    list
+    list.into_iter().map(RowCall::from).collect()
 }
 
 /// Room in the lent tables: just enough, more, or now and then one word short.

@@ -3,6 +3,7 @@
 use super::parts::{fill, rows, slack};
 use crate::case::Case;
 use crate::rng::Rng;
+use reading::CUTOFF;
 
 /// Takes the digits of a number, the last base first.
 struct Digits(u64);
@@ -64,7 +65,7 @@ pub fn frame(number: u64, rng: &mut Rng) -> Option<Case> {
         indices,
         waters: waters.into_iter().flat_map(|p| WATERS[p]).collect(),
         rows: rows(kept, rng),
-        pairs: if kept > 1 { vec![(0, 1)] } else { vec![] },
+        pairs: if kept > 1 { vec![(0, 1, CUTOFF)] } else { vec![] },
         slack: slack(rng),
         fill: fill(rng),
         solutes,
@@ -94,7 +95,7 @@ pub fn table(number: u64, rng: &mut Rng) -> Option<Case> {
         let row = d.take(n + 1);
         let word = [n_u32, n_u32 + 1, n_u32.saturating_sub(1), 0x5555_5555][d.take(words)];
         let contact = [0, most, most + 1][d.take(contacts)];
-        let mut t = vec![word, contact];
+        let mut t = vec![word, contact, CUTOFF.to_bits()];
         t.extend((0..n).map(|_| d.take(parents) as u32));
         t.extend((0..n).map(|_| [0, n_u32 - 1, n_u32][d.take(degrees)]));
         t.extend((0..n).map(|_| d.take(marks) as u32));
@@ -110,7 +111,7 @@ pub fn table(number: u64, rng: &mut Rng) -> Option<Case> {
             per: 1,
             lists: Some((starts, picks)),
             table: Some(t),
-            rows: vec![row],
+            rows: vec![row.into()],
             fill: 3,
             clusters_only: true,
             ..Case::default()
