@@ -38,14 +38,14 @@ fn pair_count(n: usize) -> usize
 
 // ---- opening
 
-// Writes the table of n copies with no contact; `cutoff` is the cutoff's bits.
-pub fn open_table(table: &mut [u32], n: usize, cutoff: u32)
+// Writes the table of n copies with no contact, and the cutoff's bits.
+pub fn open_table(table: &mut [u32], n: usize, bits: u32)
     requires { ⌜ (n ≤ maxCopies) × (words n ≤ length (now table)) ⌝ }
-    ensures { λ _. ⌜ now (table .exit) ≡ opened n cutoff (old table) ⌝ }
+    ensures { λ _. ⌜ now (table .exit) ≡ opened n bits (old table) ⌝ }
 {
     table[0] = n as u32;
     table[1] = 0;
-    table[2] = cutoff;
+    table[2] = bits;
     let mut i = 0;
     while i < n {
         table[HEADER + i] = i as u32;

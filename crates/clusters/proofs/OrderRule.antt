@@ -189,6 +189,7 @@ module _ (f : Input) where
               sets = s .sets;
               degrees = s .degrees;
               contacts-are = s .contacts-are;
+              cutoff-is = s .cutoff;
               rows = λ k i. ap answerOf (rows-rule (accepted f t₀ cs) (after f t₀ cs) s k i);
               opens = λ m k. ap answerOf (open-same m k (after f t₀ cs) t₀ (runs-length cs t₀ e));
               waits = close-waits s (room .0);

@@ -16,7 +16,7 @@ use Rattle.pick_lists.specs.Input.{Input, inputRefusals}
 use Rattle.touch.specs.Touch.{copiesTouch}
 use Rattle.base.specs.Range.{count}
 use Rattle.union_find.specs.Parents.{rootOf}
-use Rattle.cluster_table.specs.Table.{contacts, parents, degree}
+use Rattle.cluster_table.specs.Table.{contacts, tableCutoff, parents, degree}
 use Rattle.cluster_table.specs.Refusals.{otherCutoff}
 use Rattle.cluster_table.specs.declared.ClusterFractions.{ClusterFractions}
 use Rattle.cluster_table.specs.Fractions.{threeFractions}
@@ -89,6 +89,8 @@ pub record Ruled (f : Input) (n : ℕ) (k₀ : Float) (t₀ t : List ℕ) (acc :
       → (rootOf (parents n t) i ≡ rootOf (parents n t) j) ↔ Chain (graph (copiesTouch f k₀) n acc) i j
   pub degrees : (i : ℕ) → i < n → degree n t i ≡ degreeOf n (graph (copiesTouch f k₀) n acc) i
   pub contacts-are : contacts t ≡ contactsOf n (graph (copiesTouch f k₀) n acc)
+  -- the table keeps the bits of k₀
+  pub cutoff-is : tableCutoff t ≡ toBits binary32 k₀
   -- Row, with any cutoff, is refused exactly by the first of 1, 2, 3, 4, 15 and 8 that holds, else 16, else 17 if its bits are not k₀'s, else 10,
   -- else 11 if the list accepted that row before
   pub rows : (k : Float) (i : ℕ) → rowAnswer f k t i

@@ -52,7 +52,7 @@ loop-holds c = (zero-le, refl, λ t w. w)
 slice-write-table-4 : tie.Need-slice-write-table-4 Inv-loop μ-loop Inv-loop2 μ-loop2
 slice-write-table-4 c =
     let st = c .before .before in
-    let z = headed (st .args .table .now) (st .args .n) (st .args .cutoff) in
+    let z = headed (st .args .table .now) (st .args .n) (st .args .bits) in
     omega (arith, c .before .loop .inv .1)
 
 loop-again : tie.Need-loop-again Inv-loop μ-loop Inv-loop2 μ-loop2
@@ -60,7 +60,7 @@ loop-again c =
     let st = c .before .before in
     let a = c .before .loop in
     let n = st .args .n in
-    let b = st .args .cutoff in (
+    let b = st .args .bits in (
       omega arith,
       length-set (a .table) (header + a .i) (a .i) ∙ a .inv .1,
       λ t w. subst (λ (e : ℕ). Written n b t e (set (a .table) (header + a .i) (a .i))) (add-assoc header (a .i) 1)
@@ -73,7 +73,7 @@ loop2-holds c = (zero-le, refl, λ t w. rw add-zero w)
 slice-write-table-5 : tie.Need-slice-write-table-5 Inv-loop μ-loop Inv-loop2 μ-loop2
 slice-write-table-5 c =
     let st = startOf (c .before) in
-    let z = headed (st .args .table .now) (st .args .n) (st .args .cutoff) in
+    let z = headed (st .args .table .now) (st .args .n) (st .args .bits) in
     omega (arith, turned (c .before) .loop .inv .1, c .before .loop2 .inv .1)
 
 loop2-again : tie.Need-loop2-again Inv-loop μ-loop Inv-loop2 μ-loop2
@@ -81,7 +81,7 @@ loop2-again c =
     let st = startOf (c .before) in
     let a = c .before .loop2 in
     let n = st .args .n in
-    let b = st .args .cutoff in (
+    let b = st .args .bits in (
       omega arith,
       length-set (a .table) (header + n + a .k) 0 ∙ a .inv .1,
       λ t w. subst (λ (e : ℕ). Written n b t e (set (a .table) (header + n + a .k) 0)) (add-assoc (header + n) (a .k) 1)
@@ -91,14 +91,14 @@ loop2-again c =
 same-length : tie.Need-same-length Inv-loop μ-loop Inv-loop2 μ-loop2
 same-length c =
     let st = startOf (c .before) in
-    c .before .loop2 .inv .1 ∙ turned (c .before) .loop .inv .1 ∙ headed (st .args .table .now) (st .args .n) (st .args .cutoff)
+    c .before .loop2 .inv .1 ∙ turned (c .before) .loop .inv .1 ∙ headed (st .args .table .now) (st .args .n) (st .args .bits)
 
 returns : tie.Need-returns Inv-loop μ-loop Inv-loop2 μ-loop2
 unfolding opened
 returns c =
     let st = startOf (c .before) in
     let n = st .args .n in
-    let b = st .args .cutoff in
+    let b = st .args .bits in
     let e : turned (c .before) .loop .i ≡ n = omega arith in
     let t = st .args .table .now in
     let w = whole-length n b in
