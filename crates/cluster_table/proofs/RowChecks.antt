@@ -7,7 +7,7 @@ use lib.ListN.{length}
 use lib.Dec.{eqb, ltb, leb}
 use lib.Ieee.{Float, binary32, toBits}
 use native.Mathlib.Omega.{arith}
-use borrow.Author.Tests.{eq-eqb, ne-eqb, eqb-true, lt-ltb, le-ltb, ltb-false, le-leb, lt-leb, leb-false, not-false}
+use borrow.Author.Tests.{eqb-true, lt-ltb, le-ltb, ltb-false, leb-false, not-false}
 use Rattle.base.specs.Refusals.{firstRefusal}
 use Rattle.base.proofs.FirstRefusal.{first-none}
 use Rattle.cell.specs.Reach.{reach, soundReach}
@@ -42,19 +42,9 @@ module _ (n : ℕ) (k : Float) (t : List ℕ) (i : ℕ) where
           pub other : not (eqb w (tableCutoff t)) ≡ true → 17 ≡ firstRefusal (rowTableRefusals n k t i)
           other h = sym (table-chain ∙ rw (← reaches, reached, le-ltb (length t) (words n) long, ← tested, sound, ← bits, h))
 
-          module _ (same : not (eqb w (tableCutoff t)) ≡ false) where
-            pub beyond : n ≤ i → 10 ≡ firstRefusal (rowTableRefusals n k t i)
-            beyond h = sym (table-chain ∙ rw (← reaches, reached, le-ltb (length t) (words n) long, ← tested, sound, ← bits, same, le-leb n i h))
-
-            -- only the mark is left to test
-            last : i < n → firstRefusal (rowTableRefusals n k t i) ≡ cond (eqb (mark n t i) 1) 11 0
-            last h = table-chain ∙ rw (← reaches, reached, le-ltb (length t) (words n) long, ← tested, sound, ← bits, same, lt-leb n i h)
-
-            pub marked : i < n → mark n t i ≡ 1 → 11 ≡ firstRefusal (rowTableRefusals n k t i)
-            marked h m = sym (last h ∙ rw (eq-eqb (mark n t i) 1 m))
-
-            pub taken : i < n → (mark n t i ≡ 1 → ⊥) → 0 ≡ firstRefusal (rowTableRefusals n k t i)
-            taken h m = sym (last h ∙ rw (ne-eqb (mark n t i) 1 m))
+          -- the row's number and its mark are left to test
+          pub alike : not (eqb w (tableCutoff t)) ≡ false → firstRefusal (rowTableRefusals n k t i) ≡ cond (leb n i) 10 (cond (eqb (mark n t i) 1) 11 0)
+          alike h = table-chain ∙ rw (← reaches, reached, le-ltb (length t) (words n) long, ← tested, sound, ← bits, h)
 
 -- none of them holds
 pub record Asked (n : ℕ) (k : Float) (t : List ℕ) (i : ℕ) : Type 0 where
