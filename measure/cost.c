@@ -48,6 +48,17 @@ static void crowd(size_t n, size_t per) {
     }
 }
 
+/* Four large copies that do not touch, whose boxes lie in one another: slanted sheets of 128 x 128 atoms, line by line, 5.4 apart; at another
+ * cutoff than 4.2 in proportion. */
+static void sheets(void) {
+    float by = cutoff / BAITHRUM_CUTOFF;
+    set_copies(4, 16384);
+    for (size_t i = 0; i < t.s; i++) {
+        float x = 0.5f * (float)(i / 128 % 128), y = 0.5f * (float)(i % 128);
+        put(t.solutes, i, x, y, 0.5f * x + 6 * by * (float)(i / 16384));
+    }
+}
+
 /* Copies in two places, as far from each other as the cell allows. */
 static void two_places(size_t n, size_t per) {
     set_copies(n, per);
@@ -81,6 +92,10 @@ static void frames(void) {
     line("near and not touching");
     scatter_images(20);
     line("near and not touching, moved by up to 20 cells");
+    sheets();
+    line("in slanted sheets");
+    scatter_images(20);
+    line("in slanted sheets, moved by up to 20 cells");
     at_random(8, 0);
     line("at random");
     two_places(COPIES, 16);

@@ -36,14 +36,18 @@ unfolding imageAxis
 image-turned e d = subst (λ (t : Float). Turned (sub binary32 d (taken e d)) (sub binary32 (neg d) t)) (sym (taken-neg e d)) (sub-neg binary32 d (taken e d))
 
 -- from either end
-abbrev square : Float → Float → Float
+abbrev pub square : Float → Float → Float
 square e d = mul binary32 (imageAxis d e) (imageAxis d e)
+
+-- of a negated separation
+pub image-square-neg : (e d : Float) → square e (neg d) ≡ square e d
+image-square-neg e d = turned-square binary32 (image-turned e d)
 
 square-swap : (e p q : Float) → square e (sub binary32 q p) ≡ square e (sub binary32 p q)
 square-swap e p q = go (sub-swap binary32 p q)
   where
     go : Turned (sub binary32 p q) (sub binary32 q p) → square e (sub binary32 q p) ≡ square e (sub binary32 p q)
-    go (inl h) = ap (square e) h ∙ turned-square binary32 (image-turned e (sub binary32 p q))
+    go (inl h) = ap (square e) h ∙ image-square-neg e (sub binary32 p q)
     go (inr (h, k)) = ap (square e) (k ∙ sym h)
 
 -- THE SQUARED DISTANCE, FROM EITHER END

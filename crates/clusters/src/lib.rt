@@ -46,8 +46,8 @@ pub fn open(table: &mut [u32], n: usize, cutoff: f32) -> Answer
 
 // ---- Row
 
-// Row i of input that nothing refuses on a sound table: what Row's tests establish is asked, and nothing is tested again. The box of copy i and the
-// cell's gates settle most copies (crate `spans`).
+// Row i of input that nothing refuses on a sound table: what Row's tests establish is asked, and nothing is tested again. The box of copy i settles
+// most copies (crate `spans`).
 pub fn scan_row(
     cell: Cell,
     cutoff: f32,
@@ -62,15 +62,20 @@ pub fn scan_row(
     ensures { λ _. ⌜ now (table .exit) ≡ rowTable (copiesTouch (given cell (old solutes) [] (old starts) (old picks)) cutoff) (copies (old starts)) i (old table) ⌝ }
 {
     let n = starts.len() - 1;
-    let g = gates::gates_of(cell, cutoff);
-    let s = spans::span_of(solutes, pick_lists::copy_picks(starts, picks, i));
+    let e = cell::extent(cell);
+    let g = gates::screen_of(cell, cutoff, false);
+    let s = spans::copy_span(solutes, starts, picks, i);
+    // Gates are quicker, and say nothing of copies that stand over an extent apart: from the first of those on, images decide.
+    let mut wide = false;
     // Copies up to i had their own rows for this pair.
     let mut j = spans::next_close(g, solutes, starts, picks, s, i + 1);
     while j < n {
-        if spans::row_touch(cell, cutoff, g, solutes, starts, picks, i, j) {
+        let c = spans::copy_span(solutes, starts, picks, j);
+        if spans::copies_touch(cell, cutoff, solutes, starts, picks, s, c, i, j) {
             cluster_table::add_contact(table, n, i, j);
         }
-        j = spans::next_close(g, solutes, starts, picks, s, j + 1);
+        wide = wide | spans::outside(e, s, c);
+        j = spans::next_close(gates::widened(g, wide), solutes, starts, picks, s, j + 1);
     }
     cluster_table::set_mark(table, n, i);
 }

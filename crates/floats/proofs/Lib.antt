@@ -28,7 +28,7 @@ pub mod SameValue
 pub mod Signed
 -- |x| at most h by one test
 pub mod Magnitudes
--- what the tests of order say of finite values, the larger and the smaller of two, whole numbers about 0 and 1, values off zero
+-- what the tests of order say of finite values, the larger and the smaller of two, values beside a whole number, values off zero
 pub mod Order
 -- each operation is the exact result rounded
 pub mod Operations
@@ -50,6 +50,8 @@ pub mod WholeSizes
 pub mod FloorOrder
 -- every operation keeps the order
 pub mod Monotone
+-- a rounded value is at most another, or at least one more
+pub mod NextWhole
 -- y * whole (x / y) is within bounds, however small y is
 pub mod Image
 -- y * round (x / y) taken from an x below y in size, without the division

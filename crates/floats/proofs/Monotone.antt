@@ -2,20 +2,20 @@
 -- value above zero, rounding to a whole number, and squares. And adding what is not negative never goes below a summand that is a value of the
 -- format. Assumes nothing.
 pub use Rattle.floats.proofs.FloorOrder.{floor-mono-whole}
-use mathlib.Core.Path.{_≡_, sym, subst}
+use mathlib.Core.Path.{_≡_, sym, ap, _∙_, subst}
 use Prim.Native.Nat.{ℕ, _+_, _*_, _≤_, _<_}
-use native.Mathlib.Nat.{le-trans, le-of-eq, add-le-add, mul-pos, mul-le-mul-right}
+use native.Mathlib.Nat.{le-trans, le-of-eq, add-le-add, mul-pos, mul-le-mul-right, mul-mul-mul-comm}
 use native.Mathlib.Omega.{arith}
-use mathlib.Core.Bool.{Bool, true, false}
-use lib.Dec.{T, ltb→lt}
-use lib.Ieee.{Float, nan, inf, fin, Format, up, down, neg, sum, add, sub, mul, div, le, fits}
-use lib.Ieee.Fits.{up-pos, down-pos}
+use mathlib.Core.Bool.{Bool, true, false, _||_, Bool·beq}
+use lib.Dec.{T, eqb, eqb→eq, ltb→lt}
+use lib.Ieee.{Float, nan, inf, fin, Format, up, down, level, unlike, round, neg, sum, add, sub, mul, div, le, eq, fits}
+use lib.Ieee.Fits.{up-pos, down-pos, and-l}
 use lib.Ieee.Scale.{finite}
 use lib.Ieee.Positive.{den, den-pos, positive, above, above-of-le, mul-mono}
 use Rattle.floats.specs.Whole.{halfUp, roundOf}
 use Rattle.floats.proofs.Fractions.{half-mono, half-none}
 use Rattle.floats.proofs.Signs.{plain, plain-round, neg-finite}
-use Rattle.floats.proofs.Signed.{G, L, Below, le→Le, neg-le, no-more, Rounded, rounded-le}
+use Rattle.floats.proofs.Signed.{G, L, Below, le→Le, neg-le, no-more, round-le, Rounded, rounded-le}
 use Rattle.floats.proofs.Operations.{add-rounded, sub-rounded, product-rounded, quotient-rounded, own-rounded}
 use Rattle.floats.proofs.Negation.{square-neg}
 use Rattle.floats.proofs.WholeSizes.{roundSize, round-rounds, rounds-mono}
@@ -178,3 +178,30 @@ square-left f b x P p h =
     subst (λ (z : Float). T (le z (mul f x x))) (square-neg f b)
     (subst (λ (z : Float). T (le (mul f (neg b) (neg b)) z)) (square-neg f x)
     (square-right f (neg b) (neg x) P (neg-finite x p) (neg-le x b h)))
+
+-- equal numbers have equal squares
+pub eq-square : (f : Format) (a b : Float) → T (finite a) → T (finite b) → T (eq a b) → T (le (mul f a a) (mul f b b))
+unfolding eq mul
+eq-square f nan b p q h = absurd p
+eq-square f (inf s) b p q h = absurd p
+eq-square f (fin s m e) nan p q h = absurd q
+eq-square f (fin s m e) (inf t) p q h = absurd q
+eq-square f (fin s m e) (fin t n d) p q h = go s t (sizes s (m * up e * down d) t (n * up d * down e) h)
+  where
+    sizes : (s : Bool) (a : ℕ) (t : Bool) (b : ℕ) → T (level s a t b) → a ≡ b
+    sizes s a t b k = eqb→eq a b (and-l (eqb a b) (Bool·beq s t || eqb a 0) k)
+
+    squares : (x c y d : ℕ) → x * d ≡ y * c → x * x * (d * d) ≡ y * y * (c * c)
+    squares x c y d k = mul-mul-mul-comm x x d d ∙ (ap (λ (z : ℕ). z * z) k ∙ sym (mul-mul-mul-comm y y c c))
+
+    plain-le : (x c y d : ℕ) → 0 < c → 0 < d → x * d ≡ y * c → T (le (round f false (x * x) (c * c)) (round f false (y * y) (d * d)))
+    plain-le x c y d C D k = round-le f false (x * x) (c * c) false (y * y) (d * d) (mul-pos C C) (mul-pos D D) (below-of (x * x * (d * d)) (y * y * (c * c)) (c * c) (d * d) (squares x c y d k))
+      where
+        below-of : (a b g h : ℕ) → a ≡ b → a + 0 * g ≤ b + 0 * h
+        below-of a b g h i = omega (arith, i)
+
+    go : (s t : Bool) → m * up e * down d ≡ n * up d * down e → T (le (round f (unlike s s) (m * up e * (m * up e)) (down e * down e)) (round f (unlike t t) (n * up d * (n * up d)) (down d * down d)))
+    go true true k = plain-le (m * up e) (down e) (n * up d) (down d) (down-pos e) (down-pos d) k
+    go true false k = plain-le (m * up e) (down e) (n * up d) (down d) (down-pos e) (down-pos d) k
+    go false true k = plain-le (m * up e) (down e) (n * up d) (down d) (down-pos e) (down-pos d) k
+    go false false k = plain-le (m * up e) (down e) (n * up d) (down d) (down-pos e) (down-pos d) k

@@ -1,4 +1,4 @@
--- The order of finite floats: what its tests say, the larger and the smaller of two, whole numbers about 0 and 1, values off zero.
+-- The order of finite floats: what its tests say, the larger and the smaller of two, values beside a whole number, values off zero.
 -- Assumes nothing.
 use mathlib.Core.Path.{_≡_, refl, sym, subst}
 use mathlib.Core.Logic.{_⊎_, inl, inr}
@@ -6,8 +6,9 @@ use mathlib.Core.Bool.{Bool, true, false, not, _||_, cond}
 use Prim.Native.Nat.{ℕ, zero, suc, _+_, _*_, _≤_, _<_, zero-le}
 use native.Mathlib.Nat.{le-of-eq, zero-lt-suc}
 use native.Mathlib.Omega.{arith}
-use lib.Dec.{T, ltb→lt, lt→ltb, nltb→le}
-use lib.Ieee.{Float, nan, inf, fin, Format, binary32, up, down, below, round, ofBits, neg, lt, le, eq}
+use lib.Dec.{T, eqb, eqb→eq, ltb, ltb→lt, lt→ltb, nltb→le}
+use lib.Ieee.{Float, nan, inf, fin, Format, binary32, up, down, below, level, round, ofBits, neg, lt, le, eq}
+use lib.Ieee.Fits.{and-l, and-r}
 use lib.Ieee.Scale.{finite}
 use lib.Ieee.Positive.{positive, first-pos}
 use Rattle.floats.specs.Standard.{gain, loss}
@@ -39,6 +40,24 @@ flip (fin s m e) (fin t n d) p q h = to-test s (m * up e * down d) t (n * up d *
 pub less-le : (a b : Float) → lt b a ≡ true → T (le b a)
 unfolding le
 less-le a b h = subst (λ (x : Bool). T (x || eq b a)) (sym h) tt
+
+-- of equal numbers each is at most the other
+pub eq-le : (x y : Float) → T (finite x) → T (finite y) → T (eq x y) → T (le y x)
+unfolding le lt eq
+eq-le nan y p q h = absurd p
+eq-le (inf s) y p q h = absurd p
+eq-le (fin s m e) nan p q h = absurd q
+eq-le (fin s m e) (inf t) p q h = absurd q
+eq-le (fin s m e) (fin t n d) p q h = to-test t (n * up d * down e) s (m * up e * down d) (turned s (m * up e * down d) t (n * up d * down e) h)
+  where
+    turned : (s : Bool) (a : ℕ) (t : Bool) (b : ℕ) → T (level s a t b) → gain t b + loss s a ≤ gain s a + loss t b
+    turned false a false b k = let l = eqb→eq a b (and-l (eqb a b) true k) in omega (arith, l)
+    turned true a true b k = let l = eqb→eq a b (and-l (eqb a b) true k) in omega (arith, l)
+    turned false a true b k = zero-le
+    turned true a false b k =
+        let l = eqb→eq a b (and-l (eqb a b) (eqb a 0) k) in
+        let o = eqb→eq a 0 (and-r (eqb a b) (eqb a 0) k) in
+        omega (arith, l, o)
 
 -- ---- the larger and the smaller of two
 pub larger-is : (a b : Float) → (larger a b ≡ a) ⊎ (larger a b ≡ b)
@@ -97,32 +116,24 @@ module _ (a b : Float) (p : T (finite a)) (q : T (finite b)) where
       go true h = le-refl-finite b q
       go false h = flip a b p q h
 
--- ---- a rounded value is at most 0, or at least 1; and at most -1, or at least 0
-module _ (f : Format) where
-  ones : (s : Bool) (a : ℕ) (t : Bool) (b : ℕ) → gain s a + loss t b ≤ gain t b + loss s a → T (le (round f s a 1) (round f t b 1))
-  ones s a t b h = round-le f s a 1 t b 1 (zero-lt-suc 0) (zero-lt-suc 0) (omega arith)
-
-  pub whole-up : (x : Float) → T (finite x) → T (le (roundOf f x) (round f false 0 1)) ⊎ T (le (round f false 1 1) (roundOf f x))
+-- ---- a rounded value is at most a whole number, or at least the next one: n with sign s, and m with sign t
+module _ (f : Format) (s : Bool) (n : ℕ) (t : Bool) (m : ℕ) (next : gain t m + loss s n ≡ suc (gain s n + loss t m)) where
+  pub whole-split : (x : Float) → T (finite x) → T (le (roundOf f x) (round f s n 1)) ⊎ T (le (round f t m 1) (roundOf f x))
   unfolding roundOf
-  whole-up nan p = absurd p
-  whole-up (inf s) p = absurd p
-  whole-up (fin s m e) p = go s (halfUp (m * up e) (down e))
+  whole-split nan p = absurd p
+  whole-split (inf b) p = absurd p
+  whole-split (fin b k e) p = go b (halfUp (k * up e) (down e))
     where
-      go : (t : Bool) (n : ℕ) → T (le (round f t n 1) (round f false 0 1)) ⊎ T (le (round f false 1 1) (round f t n 1))
-      go true n = inl (ones true n false 0 zero-le)
-      go false zero = inl (ones false 0 false 0 zero-le)
-      go false (suc n) = inr (ones false 1 false (suc n) (omega arith))
-
-  pub whole-down : (x : Float) → T (finite x) → T (le (roundOf f x) (round f true 1 1)) ⊎ T (le (round f false 0 1) (roundOf f x))
-  unfolding roundOf
-  whole-down nan p = absurd p
-  whole-down (inf s) p = absurd p
-  whole-down (fin s m e) p = go s (halfUp (m * up e) (down e))
-    where
-      go : (t : Bool) (n : ℕ) → T (le (round f t n 1) (round f true 1 1)) ⊎ T (le (round f false 0 1) (round f t n 1))
-      go false n = inr (ones false 0 false n zero-le)
-      go true zero = inr (ones false 0 true 0 zero-le)
-      go true (suc n) = inl (ones true (suc n) true 1 (omega arith))
+      go : (b : Bool) (h : ℕ) → T (le (round f b h 1) (round f s n 1)) ⊎ T (le (round f t m 1) (round f b h 1))
+      go b h = by (ltb (gain s n + loss b h) (gain b h + loss s n)) refl
+        where
+          by : (c : Bool) → ltb (gain s n + loss b h) (gain b h + loss s n) ≡ c → T (le (round f b h 1) (round f s n 1)) ⊎ T (le (round f t m 1) (round f b h 1))
+          by true q =
+              let l : gain s n + loss b h < gain b h + loss s n = ltb→lt (gain s n + loss b h) (gain b h + loss s n) (subst T (sym q) tt) in
+              inr (round-le f t m 1 b h 1 (zero-lt-suc 0) (zero-lt-suc 0) (omega (arith, next)))
+          by false q =
+              let l : gain b h + loss s n ≤ gain s n + loss b h = nltb→le (gain s n + loss b h) (gain b h + loss s n) (subst (λ (z : Bool). T (not z)) (sym q) tt) in
+              inl (round-le f b h 1 s n 1 (zero-lt-suc 0) (zero-lt-suc 0) (omega arith))
 
 -- ---- from the tests against zero
 pub plus-of : (a : Float) → T (finite a) → T (lt (ofBits binary32 0) a) → T (positive a)

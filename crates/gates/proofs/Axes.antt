@@ -24,6 +24,7 @@ use Rattle.cell.proofs.Finite.{valid-axes, Above, Side, Around, image-axis-with
 use Rattle.frame_limits.proofs.FrameRefusals.{frame-none}
 use Rattle.frame_limits.proofs.FiniteFrame.{limited-cell, atom-around}
 use Rattle.gates.specs.Inner.{turnsOf, tested}
+use Rattle.gates.proofs.Squares.{Sized, sized}
 
 -- ---- one axis
 -- its extent is above 2 ^ -23 and 2 ^ 17 at most, with no minus sign
@@ -46,7 +47,7 @@ module _ (d e : Float) (E : Axis e) (w : Within (2 ^ 21) d) where
   pub quotient-finite : T (finite (div binary32 d e))
   quotient-finite = within-finite (2 ^ 44) (div binary32 d e) quotient-within
 
-  turns-within : Within (2 ^ 44) (turnsOf d e)
+  pub turns-within : Within (2 ^ 44) (turnsOf d e)
   unfolding turnsOf
   turns-within = round-keeps binary32 (div binary32 d e) (2 ^ 44) (exact-pow binary32 44 (lit≤ tt)) quotient-within
 
@@ -58,6 +59,9 @@ module _ (d e : Float) (E : Axis e) (w : Within (2 ^ 21) d) where
 
   pub image-within : Within (2 ^ 24) (imageAxis d e)
   image-within = image-axis-within 21 d e (lit≤ tt) (lit≤ tt) (E .side) w
+
+  pub image-sized : Sized (imageAxis d e)
+  image-sized = sized (imageAxis d e) image-within
 
 -- with fewer turns and a larger separation the image is larger
 pub image-order : (d d' e : Float) → Axis e → Within (2 ^ 21) d → Within (2 ^ 21) d' → T (le d d') → T (le (turnsOf d' e) (turnsOf d e)) → T (le (imageAxis d e) (imageAxis d' e))

@@ -34,18 +34,24 @@ sq-within x w = mul-within binary32 x x (2 ^ 24) (2 ^ 24) (exact-pow binary32 48
 sq-finite : (x : Float) → Within (2 ^ 24) x → T (finite (sq x))
 sq-finite x w = within-finite (2 ^ 48) (sq x) (sq-within x w)
 
+-- a number whose square is finite too
+pub record Sized (x : Float) : Type 0 where
+  pub own : T (finite x)
+  pub square : T (finite (sq x))
+
+pub sized : (x : Float) → Within (2 ^ 24) x → Sized x
+sized x w = record { own = within-finite (2 ^ 24) x w; square = sq-finite x w }
+
 -- ---- x is right of an a above zero, or left of a b below it, whose square is above the cutoff's
 module _ (c : Float) (fc : T (finite c)) where
   over : (a x : Float) → T (finite a) → T (finite x) → T (lt c a) → T (le a x) → T (le x c) → ⊥
   over a x p q h k l = lt-not-le a c p fc h (le-trans-finite a x c p q fc k l)
 
-  pub right-of : (a x : Float) → Within (2 ^ 24) a → Within (2 ^ 24) x → T (lt zero32 a) → T (lt c (sq a)) → T (le a x) → T (le (sq x) c) → ⊥
-  right-of a x wa wx p s h =
-      over (sq a) (sq x) (sq-finite a wa) (sq-finite x wx) s (square-right binary32 a x (plus-of a (within-finite (2 ^ 24) a wa) p) (within-finite (2 ^ 24) x wx) h)
+  pub right-of : (a x : Float) → Sized a → Sized x → T (lt zero32 a) → T (lt c (sq a)) → T (le a x) → T (le (sq x) c) → ⊥
+  right-of a x wa wx p s h = over (sq a) (sq x) (wa .square) (wx .square) s (square-right binary32 a x (plus-of a (wa .own) p) (wx .own) h)
 
-  pub left-of : (b x : Float) → Within (2 ^ 24) b → Within (2 ^ 24) x → T (lt b zero32) → T (lt c (sq b)) → T (le x b) → T (le (sq x) c) → ⊥
-  left-of b x wb wx p s h =
-      over (sq b) (sq x) (sq-finite b wb) (sq-finite x wx) s (square-left binary32 b x (minus-of b (within-finite (2 ^ 24) b wb) p) (within-finite (2 ^ 24) x wx) h)
+  pub left-of : (b x : Float) → Sized b → Sized x → T (lt b zero32) → T (lt c (sq b)) → T (le x b) → T (le (sq x) c) → ⊥
+  left-of b x wb wx p s h = over (sq b) (sq x) (wb .square) (wx .square) s (square-left binary32 b x (minus-of b (wb .own) p) (wx .own) h)
 
 -- ---- one square of three
 refused : (b : Bool) → (T b → ⊥) → b ≡ false

@@ -12,20 +12,19 @@ ghost use Rattle.base.specs.Refusals.{firstRefusal};
 ghost use Rattle.pick_lists.specs.Sound.{copies};
 ghost use Rattle.pick_lists.specs.Input.{inputRefusals, given};
 ghost use Rattle.touch.specs.Touch.{copiesTouch};
-ghost use Rattle.gates.specs.Inner.{gatesOf};
-ghost use Rattle.span_table.specs.Inner.{Spans};
+ghost use Rattle.span_table.specs.Inner.{Spans, SureMarks};
 ghost use Rattle.cluster_table.specs.Table.{words, soundTable};
 ghost use Rattle.clusters.specs.Answers.{rowTable};
 ghost use Rattle.scan.specs.Scan.{scanned};
 use base::MAX_COPIES;
 use cell::Cell;
-use gates::Gates;
+use span_table::Marks;
 
-// Row i as `clusters::scan_row`, given the cell's gates and the span table; `flags` is scratch.
+// Row i as `clusters::scan_row`, given the marks of the cell and the span table; `flags` is scratch.
 fn scan_boxed(
     cell: Cell,
     cutoff: f32,
-    g: Gates,
+    g: Marks,
     solutes: &[f32],
     starts: &[u32],
     picks: &[u32],
@@ -36,7 +35,7 @@ fn scan_boxed(
 )
     requires { ⌜ (firstRefusal (inputRefusals (given cell (now solutes) [] (now starts) (now picks))) ≡ 0) × (soundReach cutoff ≡ true) ⌝ }
     requires { ⌜ (words (copies (now starts)) ≤ length (now table)) × (soundTable (copies (now starts)) (now table) ≡ true) × (i < copies (now starts)) ⌝ }
-    requires { ⌜ (g ≡ gatesOf cutoff (extentOf cell)) × (6 * copies (now starts) ≤ length (now room)) × (copies (now starts) ≤ length (now flags)) ⌝ }
+    requires { ⌜ (SureMarks cutoff (extentOf cell) g) × (6 * copies (now starts) ≤ length (now room)) × (copies (now starts) ≤ length (now flags)) ⌝ }
     requires { ⌜ Spans (now solutes) (now starts) (now picks) (now room) ⌝ }
     ensures { λ _. ⌜ now (table .exit) ≡ rowTable (copiesTouch (given cell (old solutes) [] (old starts) (old picks)) cutoff) (copies (old starts)) i (old table) ⌝ }
 {
@@ -45,7 +44,7 @@ fn scan_boxed(
     span_table::mark_apart(g, room, flags, n, i);
     let mut k = i + 1;
     while k < n {
-        if span_table::marked_touch(cell, cutoff, g, solutes, starts, picks, room, flags, i, k) {
+        if span_table::marked_touch(cell, cutoff, solutes, starts, picks, room, flags, i, k) {
             cluster_table::add_contact(table, n, i, k);
         }
         k += 1;
@@ -57,7 +56,7 @@ fn scan_boxed(
 fn scan_rows(
     cell: Cell,
     cutoff: f32,
-    g: Gates,
+    g: Marks,
     solutes: &[f32],
     starts: &[u32],
     picks: &[u32],
@@ -67,7 +66,7 @@ fn scan_rows(
 )
     requires { ⌜ (firstRefusal (inputRefusals (given cell (now solutes) [] (now starts) (now picks))) ≡ 0) × (soundReach cutoff ≡ true) ⌝ }
     requires { ⌜ words (copies (now starts)) ≤ length (now table) ⌝ }
-    requires { ⌜ (g ≡ gatesOf cutoff (extentOf cell)) × (6 * copies (now starts) ≤ length (now room)) × (copies (now starts) ≤ length (now flags)) ⌝ }
+    requires { ⌜ (SureMarks cutoff (extentOf cell) g) × (6 * copies (now starts) ≤ length (now room)) × (copies (now starts) ≤ length (now flags)) ⌝ }
     requires { ⌜ Spans (now solutes) (now starts) (now picks) (now room) ⌝ }
     ensures { λ _. ⌜ now (table .exit) ≡ scanned (given cell (old solutes) [] (old starts) (old picks)) cutoff (old table) ⌝ }
 {
@@ -117,10 +116,11 @@ pub fn scan_all(
     let mut room = box_room();
     let mut flags = flag_room();
     span_table::fill_spans(solutes, starts, picks, &mut room);
+    let g = span_table::marks_of(cell, cutoff, &room, starts.len() - 1);
     scan_rows(
         cell,
         cutoff,
-        gates::gates_of(cell, cutoff),
+        g,
         solutes,
         starts,
         picks,

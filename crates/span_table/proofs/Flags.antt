@@ -11,7 +11,7 @@ use lib.Seq.{length-take-le, getD-append-add}
 use lib.Ieee.{Float}
 use Rattle.base.specs.Tables.{placed}
 use Rattle.base.proofs.Filling.{Filling, filling-first, filling-next, filling-last}
-use Rattle.gates.specs.declared.Gates.{Gates}
+use Rattle.span_table.specs.declared.Marks.{Marks}
 use Rattle.span_table.specs.Inner.{apartFlag, flagsFrom, flagsAfter}
 
 -- a flag that is not 0
@@ -19,7 +19,7 @@ pub flagged : (t : Bool) (m : ℕ) → m ≡ cond t 1 0 → (m ≡ 0 → ⊥) �
 flagged true m e h = refl
 flagged false m e h = absurd (h e)
 
-module _ (g : Gates) (t : List Float) (n i : ℕ) where
+module _ (g : Marks) (t : List Float) (n i : ℕ) where
   flags-length : (k j : ℕ) → length (flagsFrom g t n i k j) ≡ k
   unfolding flagsFrom
   flags-length zero j = refl

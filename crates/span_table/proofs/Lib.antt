@@ -5,3 +5,5 @@ pub mod Filling
 pub mod Table
 -- the flags of a copy against the later ones
 pub mod Flags
+-- copies whose boxes are kept apart
+pub mod Apart

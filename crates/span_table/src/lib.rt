@@ -1,7 +1,7 @@
 // The boxes of all copies in one table, for the scan of a whole frame: a row's copies are flagged first, and the search looks at the others. The
 // table has six numbers a copy: the least x of each copy, then the greatest, and the same for y and z. Lengths are in angstrom.
 ghost use mathlib.Core.Path.{_≡_};
-ghost use mathlib.Core.Bool.{true, cond};
+ghost use mathlib.Core.Bool.{true, false, cond};
 ghost use mathlib.Core.List.{[]};
 ghost use Prim.Native.Nat.{ℕ, _+_, _*_, _<_, _≤_};
 ghost use lib.Ieee.{nan};
@@ -12,16 +12,17 @@ ghost use Rattle.cell.specs.Cell.{extentOf};
 ghost use Rattle.pick_lists.specs.Sound.{soundLists, copies, pickList};
 ghost use Rattle.pick_lists.specs.Input.{given};
 ghost use Rattle.touch.specs.Touch.{copiesTouch};
-ghost use Rattle.gates.specs.Inner.{gatesOf, tested};
+ghost use Rattle.gates.specs.Inner.{tested};
 ghost use Rattle.spans.specs.Inner.{leastOf, greatestOf};
-ghost use Rattle.span_table.specs.Inner.{spanAt, Spans, apartFlag, flagsAfter};
+ghost use Rattle.span_table.specs.Inner.{spanAt, Spans, SureMarks, apartMarks, flagsAfter};
 use cell::Cell;
 use cell::Vec3;
 use gates::Gates;
+use gates::TurnGates;
 use spans::Span;
 use spans::apart;
+use spans::apart_turns;
 use spans::ends_of;
-use spans::lists_touch;
 
 // One axis of the table: n least coordinates from entry `at` on, then n greatest ones.
 fn fill_axis(xs: &[f32], starts: &[u32], picks: &[u32], table: &mut [f32], at: usize, axis: usize)
@@ -84,24 +85,78 @@ fn word(b: bool) -> u32
     0
 }
 
-// Which later copies a gate keeps apart from copy i: 1 at j, or 0; the other flags keep their values. The loop has no branch.
-pub fn mark_apart(g: Gates, table: &[f32], flags: &mut [u32], n: usize, i: usize)
+// How the copies of a frame are told apart: by gates, or, where some stand over an extent apart, by the gates of many turns.
+pub struct Marks {
+    pub wide: bool,
+    pub g: Gates,
+    pub turns: TurnGates,
+}
+
+// Whether some copy stands over an extent away from the first. It only chooses the quicker way, so that nothing is promised of it.
+fn spread(e: Vec3, table: &[f32], n: usize) -> bool
+    requires { ⌜ (n ≤ maxCopies) × (6 * n ≤ length (now table)) ⌝ }
+{
+    let mut out = false;
+    let mut j = 0;
+    while j < n {
+        out = out | spans::outside(e, span_at(table, n, 0), span_at(table, n, j));
+        j += 1;
+    }
+    out
+}
+
+// How many turns are tested at most: one for every fourth copy, a small part of the time that the marks take.
+fn most_turns(wide: bool, n: usize) -> u32
+    requires { ⌜ n ≤ maxCopies ⌝ }
+    ensures { λ r. ⌜ r ≤ 32768 ⌝ }
+{
+    if wide {
+        return base::word(1 + n / 4);
+    }
+    0
+}
+
+// The marks of the cell at the cutoff, for the copies of the table.
+pub fn marks_of(cell: Cell, cutoff: f32, table: &[f32], n: usize) -> Marks
+    requires { ⌜ (n ≤ maxCopies) × (6 * n ≤ length (now table)) ⌝ }
+    ensures { λ r. ⌜ SureMarks cutoff (extentOf cell) r ⌝ }
+{
+    let e = cell::extent(cell);
+    let wide = spread(e, table, n);
+    Marks {
+        wide: wide,
+        g: gates::gates_of(cell, cutoff),
+        turns: gates::turns_of(e, cutoff, most_turns(wide, n)),
+    }
+}
+
+// Whether the boxes are kept apart.
+fn kept_apart(g: Marks, b: Span, c: Span) -> bool
+    ensures { λ r. ⌜ r ≡ apartMarks g b c ⌝ }
+{
+    if g.wide {
+        return apart_turns(g.turns, b, c);
+    }
+    apart(g.g, b, c)
+}
+
+// Which later copies are kept apart from copy i: 1 at j, or 0; the other flags keep their values. The loop has no branch.
+pub fn mark_apart(g: Marks, table: &[f32], flags: &mut [u32], n: usize, i: usize)
     requires { ⌜ (n ≤ maxCopies) × (i < n) × (6 * n ≤ length (now table)) × (n ≤ length (now flags)) ⌝ }
     ensures { λ _. ⌜ now (flags .exit) ≡ flagsAfter g (old table) n i (old flags) ⌝ }
 {
     let b = span_at(table, n, i);
     let mut j = i + 1;
     while j < n {
-        flags[j] = word(apart(g, b, span_at(table, n, j)));
+        flags[j] = word(kept_apart(g, b, span_at(table, n, j)));
         j += 1;
     }
 }
 
-// Whether copies i and j of sound pick lists touch at the cutoff, given the cell's gates for it and the span table.
-fn copies_touch(
+// Whether copies i and j of sound pick lists touch at the cutoff, given the span table.
+fn table_touch(
     cell: Cell,
     cutoff: f32,
-    g: Gates,
     xs: &[f32],
     starts: &[u32],
     picks: &[u32],
@@ -110,22 +165,21 @@ fn copies_touch(
     j: usize,
 ) -> bool
     requires { ⌜ soundLists (now xs) (now starts) (now picks) ≡ true ⌝ }
-    requires { ⌜ (g ≡ gatesOf cutoff (extentOf cell)) × (tested cell cutoff (now xs) ≡ true) ⌝ }
+    requires { ⌜ tested cell cutoff (now xs) ≡ true ⌝ }
     requires { ⌜ Spans (now xs) (now starts) (now picks) (now table) ⌝ }
     requires { ⌜ (i < copies (now starts)) × (j < copies (now starts)) × (6 * copies (now starts) ≤ length (now table)) ⌝ }
     ensures { λ r. ⌜ r ≡ copiesTouch (given cell (old xs) [] (old starts) (old picks)) cutoff i j ⌝ }
 {
     let n = starts.len() - 1;
-    let a = pick_lists::copy_picks(starts, picks, i);
-    let b = pick_lists::copy_picks(starts, picks, j);
-    lists_touch(cell, cutoff, g, xs, a, b, span_at(table, n, j))
+    let s = span_at(table, n, i);
+    let c = span_at(table, n, j);
+    spans::copies_touch(cell, cutoff, xs, starts, picks, s, c, i, j)
 }
 
-// The same, for a copy j whose flag `mark_apart` has set against copy i.
+// The same. A copy j whose flag is set does not touch copy i.
 pub fn marked_touch(
     cell: Cell,
     cutoff: f32,
-    g: Gates,
     xs: &[f32],
     starts: &[u32],
     picks: &[u32],
@@ -135,14 +189,14 @@ pub fn marked_touch(
     j: usize,
 ) -> bool
     requires { ⌜ soundLists (now xs) (now starts) (now picks) ≡ true ⌝ }
-    requires { ⌜ (g ≡ gatesOf cutoff (extentOf cell)) × (tested cell cutoff (now xs) ≡ true) ⌝ }
+    requires { ⌜ tested cell cutoff (now xs) ≡ true ⌝ }
     requires { ⌜ Spans (now xs) (now starts) (now picks) (now table) ⌝ }
     requires { ⌜ (i < copies (now starts)) × (j < copies (now starts)) × (6 * copies (now starts) ≤ length (now table)) ⌝ }
-    requires { ⌜ (j < length (now flags)) × (getD (now flags) j 0 ≡ apartFlag g (now table) (copies (now starts)) i j) ⌝ }
+    requires { ⌜ (j < length (now flags)) × ((getD (now flags) j 0 ≡ 0 → ⊥) → copiesTouch (given cell (now xs) [] (now starts) (now picks)) cutoff i j ≡ false) ⌝ }
     ensures { λ r. ⌜ r ≡ copiesTouch (given cell (old xs) [] (old starts) (old picks)) cutoff i j ⌝ }
 {
     if flags[j] != 0 {
         return false;
     }
-    copies_touch(cell, cutoff, g, xs, starts, picks, table, i, j)
+    table_touch(cell, cutoff, xs, starts, picks, table, i, j)
 }

@@ -1,5 +1,6 @@
-// Boxes around the picks of a copy, and what the gates of the cell (crate `gates`) say of two of them: copies whose boxes a gate keeps
-// apart do not touch, and none of their pairs of picks is looked at. Lengths are in angstrom.
+// Boxes around the picks of a copy, and what crate `gates` says of two of them: copies whose boxes are kept apart do not touch, and none of their
+// pairs of picks is looked at. Where they are not, all separations from one box to the other nearly always take off the same number of extents,
+// and a search over the picks needs no division. Lengths are in angstrom.
 ghost use mathlib.Core.Path.{_≡_};
 ghost use mathlib.Core.Bool.{true, cond};
 ghost use mathlib.Core.List.{[]};
@@ -8,14 +9,16 @@ ghost use lib.ListN.{length, getD};
 ghost use Rattle.base.specs.Entry.{old};
 ghost use Rattle.base.specs.Limits.{maxPicks};
 ghost use Rattle.cell.specs.Cell.{extentOf, pointAt, finitePoint};
-ghost use Rattle.pick_lists.specs.Sound.{soundLists, copies};
+ghost use Rattle.pick_lists.specs.Sound.{soundLists, copies, pickList};
 ghost use Rattle.pick_lists.specs.Input.{given};
 ghost use Rattle.touch.specs.Touch.{near as nearOf, anyPair, copiesTouch};
-ghost use Rattle.gates.specs.Inner.{gatesOf, tested};
-ghost use Rattle.spans.specs.Inner.{coordinate as coordinateOf, leastOf, greatestOf, spanOf, pointSpan, apartOf, apartFrom, firstPast};
+ghost use Rattle.gates.specs.Inner.{tested};
+ghost use Rattle.spans.specs.Inner.{coordinate as coordinateOf, leastOf, greatestOf, spanOf, pointSpan, apartOf, apartTurns, apartImages, outsideOf, levelAxis, levelOf, clearBy, passedOver, nearOn, apartScreen, apartFrom, firstPast, partOf, FinitePicks};
 use cell::Cell;
 use cell::Vec3;
 use gates::Gates;
+use gates::Screen;
+use gates::TurnGates;
 
 // ---- the box of some picks
 
@@ -73,41 +76,129 @@ pub fn apart(g: Gates, b: Span, c: Span) -> bool
             | gates::far(g.z, c.low.z - b.high.z, c.high.z - b.low.z))
 }
 
+// The same by the gates of many turns.
+pub fn apart_turns(s: TurnGates, b: Span, c: Span) -> bool
+    ensures { λ r. ⌜ r ≡ apartTurns s b c ⌝ }
+{
+    gates::far_turns(s.x, c.low.x - b.high.x, c.high.x - b.low.x)
+        | (gates::far_turns(s.y, c.low.y - b.high.y, c.high.y - b.low.y)
+            | gates::far_turns(s.z, c.low.z - b.high.z, c.high.z - b.low.z))
+}
+
+// The same by images.
+fn apart_images(cutoff: f32, e: Vec3, b: Span, c: Span) -> bool
+    ensures { λ r. ⌜ r ≡ apartImages cutoff e b c ⌝ }
+{
+    gates::far_images(cutoff, e.x, c.low.x - b.high.x, c.high.x - b.low.x)
+        | (gates::far_images(cutoff, e.y, c.low.y - b.high.y, c.high.y - b.low.y)
+            | gates::far_images(cutoff, e.z, c.low.z - b.high.z, c.high.z - b.low.z))
+}
+
+// Whether the boxes stand over an extent apart, where gates say nothing.
+pub fn outside(e: Vec3, b: Span, c: Span) -> bool
+    ensures { λ r. ⌜ r ≡ outsideOf e b c ⌝ }
+{
+    ((e.x < c.low.x - b.high.x) | (e.x < b.low.x - c.high.x))
+        | (((e.y < c.low.y - b.high.y) | (e.y < b.low.y - c.high.y))
+            | ((e.z < c.low.z - b.high.z) | (e.z < b.low.z - c.high.z)))
+}
+
+// ---- two boxes on a level
+
+// Where `sure`, every separation from one box to the other takes off the same number of extents: its image is the separation less `by`.
+pub struct Level {
+    pub sure: bool,
+    pub by: Vec3,
+}
+
+fn level_axis(e: f32, lo: f32, hi: f32) -> bool
+    ensures { λ r. ⌜ r ≡ levelAxis e lo hi ⌝ }
+{
+    gates::turns(hi, e) <= gates::turns(lo, e)
+}
+
+// Copies that are not apart are nearly always on a level: their boxes are small beside the cell.
+pub fn level_of(e: Vec3, b: Span, c: Span) -> Level
+    ensures { λ r. ⌜ r ≡ levelOf e b c ⌝ }
+{
+    Level {
+        sure: level_axis(e.x, c.low.x - b.high.x, c.high.x - b.low.x)
+            & (level_axis(e.y, c.low.y - b.high.y, c.high.y - b.low.y)
+                & level_axis(e.z, c.low.z - b.high.z, c.high.z - b.low.z)),
+        by: Vec3 {
+            x: e.x * gates::turns(c.low.x - b.high.x, e.x),
+            y: e.y * gates::turns(c.low.y - b.high.y, e.y),
+            z: e.z * gates::turns(c.low.z - b.high.z, e.z),
+        },
+    }
+}
+
+fn clear_by(cutoff: f32, by: f32, lo: f32, hi: f32) -> bool
+    ensures { λ r. ⌜ r ≡ clearBy cutoff by lo hi ⌝ }
+{
+    let gap = numbers::order::larger(lo - by, -(hi - by));
+    (0.0 < gap) & (cutoff * cutoff < gap * gap)
+}
+
+// Whether the point is far from the whole box.
+fn passed_over(cutoff: f32, e: Vec3, level: Level, p: Vec3, c: Span) -> bool
+    ensures { λ r. ⌜ r ≡ passedOver cutoff e level p c ⌝ }
+{
+    if level.sure {
+        return clear_by(cutoff, level.by.x, c.low.x - p.x, c.high.x - p.x)
+            | (clear_by(cutoff, level.by.y, c.low.y - p.y, c.high.y - p.y)
+                | clear_by(cutoff, level.by.z, c.low.z - p.z, c.high.z - p.z));
+    }
+    apart_images(cutoff, e, point_span(p), c)
+}
+
+// Whether two points are at most the cutoff apart. On a level there is no division, and no branch turns on a separation.
+fn near_on(cutoff: f32, e: Vec3, level: Level, p: Vec3, q: Vec3) -> bool
+    ensures { λ r. ⌜ r ≡ nearOn cutoff e level p q ⌝ }
+{
+    if level.sure {
+        let by = level.by;
+        return cell::magnitude_squared(cell::separation(by, cell::separation(p, q)))
+            <= cutoff * cutoff;
+    }
+    cell::distance_squared(e, p, q) <= cutoff * cutoff
+}
+
 // ---- two copies
 
-// Where the search of a list starts: at its end, where a gate keeps the boxes apart.
-fn begin(g: Gates, b: Span, c: Span, end: usize) -> usize
-    ensures { λ r. ⌜ r ≡ cond (apartOf g b c) end 0 ⌝ }
+// Where the search of a list starts: at its end, where the point is far from the list's box.
+fn begin(cutoff: f32, e: Vec3, level: Level, p: Vec3, c: Span, end: usize) -> usize
+    ensures { λ r. ⌜ r ≡ cond (passedOver cutoff e level p c) end 0 ⌝ }
 {
-    if apart(g, b, c) {
+    if passed_over(cutoff, e, level, p, c) {
         return end;
     }
     0
 }
 
-// Whether some pick of a and some pick of b, which lie in the box c, are near at the cutoff. A pick that a gate keeps apart from the box is passed over. The search
+// Whether some pick of a and some pick of b, which lie in the box c, are near at the cutoff. A pick that is far from the box is passed over. The search
 // leaves both lists at the first near pair.
 pub fn lists_touch(
     cell: Cell,
     cutoff: f32,
-    g: Gates,
+    level: Level,
     xs: &[f32],
     a: &[u32],
     b: &[u32],
     c: Span,
 ) -> bool
-    requires { ⌜ (g ≡ gatesOf cutoff (extentOf cell)) × (tested cell cutoff (now xs) ≡ true) × (c ≡ spanOf (now xs) (now b)) × (0 < length (now b)) × (length (now b) ≤ maxPicks) ⌝ }
-    requires { ⌜ ((k : ℕ) → k < length (now a) → (getD (now a) k 0 * 3 + 2 < length (now xs)) × (finitePoint (pointAt (now xs) (getD (now a) k 0)) ≡ true)) ⌝ }
-    requires { ⌜ ((k : ℕ) → k < length (now b) → (getD (now b) k 0 * 3 + 2 < length (now xs)) × (finitePoint (pointAt (now xs) (getD (now b) k 0)) ≡ true)) ⌝ }
+    requires { ⌜ (tested cell cutoff (now xs) ≡ true) × (level ≡ levelOf (extentOf cell) (spanOf (now xs) (now a)) c) × (c ≡ spanOf (now xs) (now b)) × (0 < length (now b)) × (length (now b) ≤ maxPicks) ⌝ }
+    requires { ⌜ FinitePicks (now xs) (now a) × FinitePicks (now xs) (now b) ⌝ }
     ensures { λ r. ⌜ r ≡ anyPair (nearOf cutoff (extentOf cell) (old xs)) (old a) (old b) ⌝ }
 {
+    let e = cell::extent(cell);
     let mut found = false;
     let mut i = 0;
     'pairs: while i < a.len() {
-        let p = base::wide(a[i]);
-        let mut j = begin(g, point_span(cell::point(xs, p)), c, b.len());
+        let p = cell::point(xs, base::wide(a[i]));
+        let mut j = begin(cutoff, e, level, p, c, b.len());
         while j < b.len() {
-            if gates::near(cell, cutoff, g, xs, p, base::wide(b[j])) {
+            if near_on(cutoff, e, level, p, cell::point(xs, base::wide(b[j]))) {
                 found = true;
                 break 'pairs;
             }
@@ -143,26 +234,47 @@ pub fn span_of(xs: &[f32], a: &[u32]) -> Span
     }
 }
 
-// Whether a gate keeps the box s and the box of the picks b apart. An axis is worked out only where those before it do not decide.
-fn spans_apart(g: Gates, xs: &[f32], b: &[u32], s: Span) -> bool
+// Whether the screen keeps the box s and the box of the picks b apart. An axis is worked out only where those before it do not decide.
+fn spans_apart(g: Screen, xs: &[f32], b: &[u32], s: Span) -> bool
     requires { ⌜ 0 < length (now b) ⌝ }
     requires { ⌜ ((k : ℕ) → k < length (now b) → getD (now b) k 0 * 3 + 2 < length (now xs)) ⌝ }
-    ensures { λ r. ⌜ r ≡ apartOf g s (spanOf (old xs) (old b)) ⌝ }
+    ensures { λ r. ⌜ r ≡ apartScreen g s (spanOf (old xs) (old b)) ⌝ }
 {
     let x = ends_of(xs, b, 0);
-    if gates::far(g.x, x.lo - s.high.x, x.hi - s.low.x) {
+    if gates::rejects(
+        g.wide,
+        g.cutoff,
+        g.e.x,
+        g.g.x,
+        x.lo - s.high.x,
+        x.hi - s.low.x,
+    ) {
         return true;
     }
     let y = ends_of(xs, b, 1);
-    if gates::far(g.y, y.lo - s.high.y, y.hi - s.low.y) {
+    if gates::rejects(
+        g.wide,
+        g.cutoff,
+        g.e.y,
+        g.g.y,
+        y.lo - s.high.y,
+        y.hi - s.low.y,
+    ) {
         return true;
     }
     let z = ends_of(xs, b, 2);
-    gates::far(g.z, z.lo - s.high.z, z.hi - s.low.z)
+    gates::rejects(
+        g.wide,
+        g.cutoff,
+        g.e.z,
+        g.g.z,
+        z.lo - s.high.z,
+        z.hi - s.low.z,
+    )
 }
 
-// Whether a gate keeps the box s and the box of copy j of sound pick lists apart.
-fn row_apart(g: Gates, xs: &[f32], starts: &[u32], picks: &[u32], s: Span, j: usize) -> bool
+// Whether the screen keeps the box s and the box of copy j of sound pick lists apart.
+fn row_apart(g: Screen, xs: &[f32], starts: &[u32], picks: &[u32], s: Span, j: usize) -> bool
     requires { ⌜ soundLists (now xs) (now starts) (now picks) ≡ true ⌝ }
     requires { ⌜ j < copies (now starts) ⌝ }
     ensures { λ r. ⌜ r ≡ apartFrom g (old xs) (old starts) (old picks) s j ⌝ }
@@ -170,9 +282,9 @@ fn row_apart(g: Gates, xs: &[f32], starts: &[u32], picks: &[u32], s: Span, j: us
     spans_apart(g, xs, pick_lists::copy_picks(starts, picks, j), s)
 }
 
-// The first copy from j on that no gate keeps apart from the box s, or the number of copies. A loop of its own, so that what follows such a copy
-// takes none of its registers.
-pub fn next_close(g: Gates, xs: &[f32], starts: &[u32], picks: &[u32], s: Span, j: usize) -> usize
+// The first copy from j on that the screen does not keep apart from the box s, or the number of copies. A loop of its own, so that what follows such a
+// copy takes none of its registers.
+pub fn next_close(g: Screen, xs: &[f32], starts: &[u32], picks: &[u32], s: Span, j: usize) -> usize
     requires { ⌜ soundLists (now xs) (now starts) (now picks) ≡ true ⌝ }
     requires { ⌜ j ≤ copies (now starts) ⌝ }
     ensures { λ r. ⌜ r ≡ firstPast (apartFrom g (old xs) (old starts) (old picks) s) (copies (old starts) - j) j ⌝ }
@@ -188,23 +300,101 @@ pub fn next_close(g: Gates, xs: &[f32], starts: &[u32], picks: &[u32], s: Span, 
     n
 }
 
-// Whether copies i and j of sound pick lists touch at the cutoff, given the cell's gates for it.
-pub fn row_touch(
+// The box of copy j of sound pick lists.
+pub fn copy_span(xs: &[f32], starts: &[u32], picks: &[u32], j: usize) -> Span
+    requires { ⌜ soundLists (now xs) (now starts) (now picks) ≡ true ⌝ }
+    requires { ⌜ j < copies (now starts) ⌝ }
+    ensures { λ r. ⌜ r ≡ spanOf (old xs) (pickList (old starts) (old picks) j) ⌝ }
+{
+    span_of(xs, pick_lists::copy_picks(starts, picks, j))
+}
+
+// ---- two lists, a part at a time
+
+// How many picks a part has. The box of a long list is large, and few picks are far from it; the boxes of its parts are smaller.
+const PART: usize = 64;
+
+// The part of a list from pick k on.
+fn part_of(a: &[u32], k: usize) -> &[u32]
+    requires { ⌜ k < length (now a) ⌝ }
+    ensures { λ r. ⌜ now r ≡ partOf (old a) k ⌝ }
+{
+    if a.len() - k <= PART {
+        return &a[k..];
+    }
+    let end = k + PART;
+    &a[k..end]
+}
+
+// Whether some pick of a, which lie in the box s, and some pick of b are near at the cutoff: by the parts of b.
+fn part_touch(cell: Cell, cutoff: f32, xs: &[f32], a: &[u32], s: Span, b: &[u32]) -> bool
+    requires { ⌜ (tested cell cutoff (now xs) ≡ true) × (s ≡ spanOf (now xs) (now a)) × (length (now b) ≤ maxPicks) ⌝ }
+    requires { ⌜ FinitePicks (now xs) (now a) × FinitePicks (now xs) (now b) ⌝ }
+    ensures { λ r. ⌜ r ≡ anyPair (nearOf cutoff (extentOf cell) (old xs)) (old a) (old b) ⌝ }
+{
+    let e = cell::extent(cell);
+    let mut j = 0;
+    while j < b.len() {
+        let q = part_of(b, j);
+        let c = span_of(xs, q);
+        if lists_touch(cell, cutoff, level_of(e, s, c), xs, a, q, c) {
+            return true;
+        }
+        j += PART;
+    }
+    false
+}
+
+// The same by the parts of both lists.
+fn parts_touch(cell: Cell, cutoff: f32, xs: &[f32], a: &[u32], b: &[u32]) -> bool
+    requires { ⌜ (tested cell cutoff (now xs) ≡ true) × (length (now a) ≤ maxPicks) × (length (now b) ≤ maxPicks) ⌝ }
+    requires { ⌜ FinitePicks (now xs) (now a) × FinitePicks (now xs) (now b) ⌝ }
+    ensures { λ r. ⌜ r ≡ anyPair (nearOf cutoff (extentOf cell) (old xs)) (old a) (old b) ⌝ }
+{
+    let mut i = 0;
+    while i < a.len() {
+        let p = part_of(a, i);
+        if part_touch(cell, cutoff, xs, p, span_of(xs, p), b) {
+            return true;
+        }
+        i += PART;
+    }
+    false
+}
+
+// The same for lists in the boxes s and c. Two lists of one part each have these boxes already.
+fn boxed_touch(cell: Cell, cutoff: f32, xs: &[f32], a: &[u32], b: &[u32], s: Span, c: Span) -> bool
+    requires { ⌜ (tested cell cutoff (now xs) ≡ true) × (s ≡ spanOf (now xs) (now a)) × (c ≡ spanOf (now xs) (now b)) ⌝ }
+    requires { ⌜ (length (now a) ≤ maxPicks) × (0 < length (now b)) × (length (now b) ≤ maxPicks) ⌝ }
+    requires { ⌜ FinitePicks (now xs) (now a) × FinitePicks (now xs) (now b) ⌝ }
+    ensures { λ r. ⌜ r ≡ anyPair (nearOf cutoff (extentOf cell) (old xs)) (old a) (old b) ⌝ }
+{
+    if (a.len() <= PART) & (b.len() <= PART) {
+        let level = level_of(cell::extent(cell), s, c);
+        return lists_touch(cell, cutoff, level, xs, a, b, c);
+    }
+    parts_touch(cell, cutoff, xs, a, b)
+}
+
+// Whether copies i and j of sound pick lists, in the boxes s and c, touch at the cutoff.
+pub fn copies_touch(
     cell: Cell,
     cutoff: f32,
-    g: Gates,
     xs: &[f32],
     starts: &[u32],
     picks: &[u32],
+    s: Span,
+    c: Span,
     i: usize,
     j: usize,
 ) -> bool
     requires { ⌜ soundLists (now xs) (now starts) (now picks) ≡ true ⌝ }
-    requires { ⌜ (g ≡ gatesOf cutoff (extentOf cell)) × (tested cell cutoff (now xs) ≡ true) ⌝ }
+    requires { ⌜ tested cell cutoff (now xs) ≡ true ⌝ }
     requires { ⌜ (i < copies (now starts)) × (j < copies (now starts)) ⌝ }
+    requires { ⌜ (s ≡ spanOf (now xs) (pickList (now starts) (now picks) i)) × (c ≡ spanOf (now xs) (pickList (now starts) (now picks) j)) ⌝ }
     ensures { λ r. ⌜ r ≡ copiesTouch (given cell (old xs) [] (old starts) (old picks)) cutoff i j ⌝ }
 {
     let a = pick_lists::copy_picks(starts, picks, i);
     let b = pick_lists::copy_picks(starts, picks, j);
-    lists_touch(cell, cutoff, g, xs, a, b, span_of(xs, b))
+    boxed_touch(cell, cutoff, xs, a, b, s, c)
 }

@@ -20,6 +20,7 @@ use Rattle.pick_lists.specs.Input.{Input, inputRefusals}
 use Rattle.pick_lists.proofs.InputRefusals.{input-accepted}
 use Rattle.pick_lists.proofs.SoundLists.{sound-lists}
 use Rattle.touch.specs.Touch.{cutoff2, near, anyIn, anyPair, copiesTouch}
+use Rattle.touch.proofs.Any.{never, either}
 use Rattle.touch.specs.Mirror.{opposite, sameNumbers, touchReversed, pickPoint, Mirrored, MirrorLaw}
 
 -- ---- all three axes
@@ -45,25 +46,9 @@ images-swap c p q v h =
     three (image-swap (e .x) (a .0) (p .x) (q .x) (f .0)) (image-swap (e .y) (a .1) (p .y) (q .y) (f .1)) (image-swap (e .z) (a .2) (p .z) (q .z) (f .2))
 
 -- ---- a search of the pairs of two lists, by the other list first
-none : (qs : List ℕ) → anyIn (λ q. false) qs ≡ false
-unfolding anyIn
-none [] = refl
-none (q ∷ qs) = none qs
-
-either : (f g : ℕ → Bool) (qs : List ℕ) → anyIn (λ q. f q || g q) qs ≡ (anyIn f qs || anyIn g qs)
-unfolding anyIn
-either f g [] = refl
-either f g (q ∷ qs) = ap (λ (b : Bool). (f q || g q) || b) (either f g qs) ∙ four (f q) (g q) (anyIn f qs) (anyIn g qs)
-  where
-    four : (a b c d : Bool) → ((a || b) || (c || d)) ≡ ((a || c) || (b || d))
-    four true b c d = refl
-    four false true true d = refl
-    four false true false d = refl
-    four false false c d = refl
-
 pair-swap : (f : ℕ → ℕ → Bool) (ps qs : List ℕ) → anyPair f ps qs ≡ anyPair (λ q p. f p q) qs ps
 unfolding anyPair anyIn
-pair-swap f [] qs = sym (none qs)
+pair-swap f [] qs = sym (never qs)
 pair-swap f (p ∷ ps) qs = ap (λ (b : Bool). anyIn (f p) qs || b) (pair-swap f ps qs) ∙ sym (either (f p) (λ q. anyIn (λ r. f r q) ps) qs)
 
 -- ---- copies

@@ -3,7 +3,9 @@
 use crate::sides::{Frame, Library, Original, WATERS, Work};
 
 /// Copies and picks of each.
-const SIZES: [(usize, usize); 5] = [(512, 1), (4_096, 1), (512, 16), (4_096, 4), (4_096, 16)];
+pub const SIZES: [(usize, usize); 6] = [(512, 1), (4_096, 1), (512, 16), (1_000, 30), (4_096, 4), (4_096, 16)];
+/// The scan stands for both of its lines.
+pub const CALLS: [Work; 6] = [Work::Select, Work::Scan, Work::Dispersion, Work::Tree, Work::Report, Work::Frame];
 /// One line gets no more than about this many seconds: long runs are repeated less often.
 const SECONDS: f64 = 120.0;
 /// Milliseconds of one run at least: a short call is repeated in it.
@@ -97,28 +99,37 @@ impl Line<'_> {
     }
 }
 
-pub fn bench(seed: u64, runs: usize, most_picks: usize, images: usize) {
+/// A size as 512x16, within the limits.
+pub fn size(word: &str) -> Option<(usize, usize)> {
+    let (n, per) = word.split_once('x')?;
+    let (n, per) = (n.trim().parse().ok()?, per.trim().parse().ok()?);
+    ((1..=reading::COPIES).contains(&n) && (1..=reading::PICKS / n).contains(&per)).then_some((n, per))
+}
+
+pub fn call(word: &str) -> Option<Work> {
+    Work::named(word).filter(|work| CALLS.contains(work))
+}
+
+pub fn bench(seed: u64, runs: usize, sizes: &[(usize, usize)], calls: &[Work], images: usize) {
     let moved = if images == 0 { "0".to_string() } else { format!("±{images}") };
     println!("| picks | waters | images | call | Rust, CPU ms | library, CPU ms | library / Rust | runs |");
     println!("|---|---|---|---|---|---|---|---|");
-    for (n, per) in SIZES {
-        if n * per > most_picks {
-            continue;
-        }
+    for &(n, per) in sizes {
         for (waters, side) in WATERS {
             let line = Line { size: &format!("{n} x {per}"), waters, images: &moved, runs };
-            one(&line, &Frame::new(n, per, waters, side, images, seed));
+            one(&line, &Frame::new(n, per, waters, side, images, seed), calls);
         }
     }
 }
 
-fn one(line: &Line, f: &Frame) {
+fn one(line: &Line, f: &Frame, calls: &[Work]) {
     let original = Original::new(f);
     let mut library = Library::new(f, &original);
-    line.both(Work::Select, &original, &mut library);
-    scans(line, f, &original, &mut library);
-    for work in [Work::Dispersion, Work::Tree, Work::Report, Work::Frame] {
-        line.both(work, &original, &mut library);
+    for work in CALLS.into_iter().filter(|work| calls.contains(work)) {
+        match work {
+            Work::Scan => scans(line, f, &original, &mut library),
+            _ => line.both(work, &original, &mut library),
+        }
     }
 }
 

@@ -52,6 +52,8 @@ pub struct Case {
     pub per: usize,
     pub indices: Vec<u32>,
     pub waters: Vec<f32>,
+    /// A copy, an atom or a water was moved by a whole number of extents.
+    pub unwrapped: bool,
     /// Starts and picks for Row and the calls after it, in place of Select's.
     pub lists: Option<(Vec<u32>, Vec<u32>)>,
     /// Open's copies, in place of the pick lists'.

@@ -12,6 +12,7 @@ mod halves;
 mod lists;
 mod parts;
 mod tiny;
+mod unwrapped;
 
 pub use full::FULL;
 
@@ -32,6 +33,11 @@ pub fn case(group: &str, seed: u64, number: u64) -> Option<Case> {
         "small" => small(reach, &mut rng),
         _ => full::full(number, reach, &mut rng),
     };
+    // From random numbers of their own, so that the other three of four cases are the same whatever is drawn here.
+    let mut images = Rng::new(seed, 400 + at, number);
+    if ["random", "small"].contains(&group) && images.one_in(4) {
+        case = unwrapped(group, case, reach, &mut images);
+    }
     cutoffs::give(&mut case, reach, &mut own);
     Some(case)
 }
@@ -50,6 +56,15 @@ fn around(mut c: Case, rng: &mut Rng) -> Case {
     c.slack = slack(rng);
     c.fill = fill(rng);
     c
+}
+
+/// In place of a case: the same with some of its frame moved by images, or another that is made for it.
+fn unwrapped(group: &str, case: Case, reach: f32, rng: &mut Rng) -> Case {
+    match group {
+        _ if rng.one_in(2) => unwrapped::moved(case, rng),
+        "small" => with_room(unwrapped::few(8, reach, rng), rng),
+        _ => around(unwrapped::few(rng.pick(&[6, 12, 12, 24]), reach, rng), rng),
+    }
 }
 
 /// Copies beside one another are placed by the cutoff `reach`.
@@ -86,6 +101,10 @@ pub fn random(reach: f32, rng: &mut Rng) -> Case {
 /// has separations at halves of the extents. Tree and Report are called alone in one case of sixteen.
 fn small(reach: f32, rng: &mut Rng) -> Case {
     let case = if rng.one_in(3) { halves::small(reach, rng) } else { scattered(reach, rng) };
+    with_room(case, rng)
+}
+
+fn with_room(case: Case, rng: &mut Rng) -> Case {
     let mut case = around(case, rng);
     case.slack = case.slack.map(|s| s.max(0));
     case.trees_in_frame = !rng.one_in(16);

@@ -36,12 +36,18 @@ struct Options {
     runs: usize,
     most_picks: usize,
     images: usize,
+    sizes: Vec<(usize, usize)>,
+    calls: Vec<sides::Work>,
 }
 
 fn usage(what: &str) -> ! {
     eprintln!("oracle: {what}");
     eprintln!("see oracle/README.md for the options");
     exit(2)
+}
+
+fn list<T>(value: &str, read: fn(&str) -> Option<T>, wants: &str) -> Vec<T> {
+    value.split(',').map(|word| read(word).unwrap_or_else(|| usage(wants))).collect()
 }
 
 fn options(words: &[String]) -> Options {
@@ -57,6 +63,8 @@ fn options(words: &[String]) -> Options {
         runs: 5,
         most_picks: reading::PICKS,
         images: 0,
+        sizes: bench::SIZES.to_vec(),
+        calls: bench::CALLS.to_vec(),
     };
     let mut words = words.iter();
     while let Some(word) = words.next() {
@@ -74,6 +82,8 @@ fn options(words: &[String]) -> Options {
             "--runs" => o.runs = number().max(1) as usize,
             "--most-picks" => o.most_picks = number() as usize,
             "--images" => o.images = number() as usize,
+            "--sizes" => o.sizes = list(value, bench::size, "--sizes wants copies x picks, as 512x16,4096x1"),
+            "--calls" => o.calls = list(value, bench::call, "--calls wants some of select,scan,dispersion,tree,report,frame"),
             #[cfg(mock)]
             "--fault" => mock::set_fault(number() as u32),
             _ => usage(&format!("no option {word}")),
@@ -98,7 +108,8 @@ fn main() {
         Some("bench") => {
             let o = options(&words[1..]);
             every_call();
-            bench::bench(o.seed, o.runs, o.most_picks, o.images);
+            let sizes: Vec<_> = o.sizes.iter().copied().filter(|(n, per)| n * per <= o.most_picks).collect();
+            bench::bench(o.seed, o.runs, &sizes, &o.calls, o.images);
         }
         Some("counts") => {
             every_call();
@@ -131,6 +142,9 @@ fn count(words: &[String]) -> Option<()> {
 fn try_case(group: &'static str, number: u64, case: case::Case, o: &Options, stats: &mut Stats) {
     signals::now(group, number, o.seed);
     *stats.groups.entry(group).or_default() += 1;
+    if case.unwrapped {
+        *stats.unwrapped.entry(group).or_default() += 1;
+    }
     let whole = stats.whole;
     let checked = check::check(&case, None, stats);
     *stats.whole_by_group.entry(group).or_default() += stats.whole - whole;
@@ -183,7 +197,7 @@ fn compare(o: &Options) {
         }
         println!("group {group}: all {number} cases agree ({:.1} s)", start.elapsed().as_secs_f64());
     }
-    // Full-size frames take up to half of what is left, cheap ones first, while the next one fits.
+    // Full-size frames take up to half of what is left, the cheap ones of a round first, while the next one fits.
     if groups.contains(&"full") {
         let open = groups.iter().any(|g| OPEN.contains(g));
         let left = end.saturating_duration_since(Instant::now());
@@ -192,12 +206,16 @@ fn compare(o: &Options) {
         let mut skipped = 0;
         // How this machine compares with the one that the costs were taken on.
         let (mut spent, mut planned) = (1.0, 1.0);
+        let mut order: Vec<usize> = (0..frames::FULL.len()).collect();
+        order.sort_by_key(|&at| frames::FULL[at].1);
         while Instant::now() < until && skipped < frames::FULL.len() {
-            let (name, cost) = frames::FULL[number as usize % frames::FULL.len()];
+            let at = order[number as usize % order.len()];
+            let (name, cost) = frames::FULL[at];
             let begin = Instant::now();
             if cost > o.dearest {
                 skipped += 1;
             } else if begin + Duration::from_secs_f64(cost as f64 * spent / planned) <= until {
+                let number = number - number % order.len() as u64 + at as u64;
                 let case = frames::case("full", o.seed, number).unwrap();
                 try_case("full", number, case, o, &mut stats);
                 println!("  {name}: {:.1} s", begin.elapsed().as_secs_f64());

@@ -36,6 +36,11 @@ pub struct Stats {
     /// Separations near an odd multiple of half an extent in these: Row's, Centers', Dispersion's and Report's.
     pub halves: [u64; 4],
     pub with_halves: u64,
+    /// Cases with something moved by a whole number of extents, by group.
+    pub unwrapped: BTreeMap<&'static str, u64>,
+    /// Pairs of copies that touch in a whole frame, and of these the ones that stand over an extent apart.
+    pub touching: u64,
+    pub images_apart: u64,
     pub frames: u64,
     pub with_contacts: u64,
     pub with_split: u64,
@@ -100,6 +105,9 @@ impl Stats {
             self.halves.iter().sum::<u64>(),
             self.with_halves
         );
+        let each: Vec<String> = self.unwrapped.iter().map(|(group, n)| format!("{group}: {n}")).collect();
+        println!("unwrapped frames: {}   {}", self.unwrapped.values().sum::<u64>(), each.join("  "));
+        println!("pairs of copies that touch in whole frames: {}, over an extent apart: {}", self.touching, self.images_apart);
         println!("table entries compared: {}", self.entries);
         println!(
             "scans: {} with contacts ({} contacts)",

@@ -22,6 +22,20 @@ pub fn touch(p: &Picked, cutoff: f32, i: usize, j: usize, round: Round) -> bool 
     p.mols[i].iter().any(|&a| p.mols[j].iter().any(|&b| near(a, b)))
 }
 
+/// Right for copies of few or very many picks, and where the first picks are at most an extent apart on every axis; else all picks are
+/// moved by as many extents as these.
+pub fn touch_by_first(p: &Picked, cutoff: f32, i: usize, j: usize) -> bool {
+    let d = p.mols[j][0] - p.mols[i][0];
+    let e = p.cell.extent;
+    let some = |i: usize| (9..=64).contains(&p.mols[i].len());
+    if !some(i) || !some(j) || d.x.abs() <= e.x && d.y.abs() <= e.y && d.z.abs() <= e.z {
+        return p.touch(cutoff, i, j);
+    }
+    let turned = Vec3::new(e.x * (d.x / e.x).round(), e.y * (d.y / e.y).round(), e.z * (d.z / e.z).round());
+    let near = |a: Vec3, b: Vec3| (b - a - turned).magnitude_squared() <= cutoff * cutoff;
+    p.mols[i].iter().any(|&a| p.mols[j].iter().any(|&b| near(a, b)))
+}
+
 pub fn center(p: &Picked, mol: &[Vec3], round: Round) -> Vec3 {
     let anchor = p.cell.wrap(mol[0]);
     let mut sum = Vec3::new_zero();

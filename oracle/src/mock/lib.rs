@@ -10,7 +10,7 @@ use reading::{Answer, CUTOFF, GREATEST_CUTOFF, HEAD, Picked, cutoff_refused};
 use std::sync::atomic::{AtomicU32, Ordering};
 
 /// The mistakes, by number less one; `oracle/selftest` tries each.
-pub const FAULTS: [&str; 66] = [
+pub const FAULTS: [&str; 69] = [
     "select: picks are sorted",
     "select: 4 is tested for whole atoms, not coordinate by coordinate",
     "select: 5 counts vanished copies too",
@@ -77,6 +77,9 @@ pub const FAULTS: [&str; 66] = [
     "frame: 16 before blank",
     "frame: 16 before 5 and 6",
     "frame: 16 after 7",
+    "row: the minimum image goes one extent at most",
+    "row: copies of 9 to 64 picks, over an extent apart, are turned as their first picks are",
+    "row: of a copy's picks only the first 64 are looked at",
 ];
 
 static FAULT: AtomicU32 = AtomicU32::new(0);
@@ -200,6 +203,16 @@ pub unsafe extern "C" fn baithrum_row(
         let p = picked.as_ref().ok().unwrap();
         if fault("row: the minimum image rounds halves to even") {
             return images::touch(p, cutoff, i, j, f32::round_ties_even);
+        }
+        if fault("row: the minimum image goes one extent at most") {
+            return images::touch(p, cutoff, i, j, |q| q.round().clamp(-1.0, 1.0));
+        }
+        if fault("row: copies of 9 to 64 picks, over an extent apart, are turned as their first picks are") {
+            return images::touch_by_first(p, cutoff, i, j);
+        }
+        if fault("row: of a copy's picks only the first 64 are looked at") {
+            let few = |i: usize| p.mols[i].iter().copied().take(64).collect();
+            return Picked { cell: p.cell, mols: vec![few(i), few(j)] }.touch(cutoff, 0, 1);
         }
         let d2 = |a, b| p.cell.min_image(b - a).magnitude_squared();
         let any = |near: fn(f32, f32) -> bool| p.mols[i].iter().any(|&a| p.mols[j].iter().any(|&b| near(d2(a, b), cutoff)));

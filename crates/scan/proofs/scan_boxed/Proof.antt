@@ -1,12 +1,14 @@
 -- `scan::scan_boxed` meets its contract: as `clusters::scan_row`, with the flags that `mark_apart` has set. Assumes nothing.
-use mathlib.Core.Path.{sym, _∙_}
+use mathlib.Core.Path.{sym, ap, _∙_}
 use mathlib.Core.Logic.{⊎-elim}
-use mathlib.Core.List.{[]}
-use Prim.Native.Nat.{_-_}
+use mathlib.Core.List.{List, []}
+use Prim.Native.Nat.{ℕ, _-_}
 use native.Mathlib.Omega.{arith}
+use lib.ListN.{getD}
 use Rattle.pick_lists.specs.Input.{given}
 use Rattle.touch.specs.Touch.{copiesTouch}
-use Rattle.span_table.proofs.Flags.{flag-after}
+use Rattle.span_table.proofs.Flags.{flagged, flag-after}
+use Rattle.span_table.proofs.Apart.{marked-apart}
 use Rattle.cluster_table.proofs.Checks.{ready-of}
 use Rattle.clusters.proofs.Accepted.{accepted-sound, accepted-lists, accepted-tested}
 use Rattle.clusters.proofs.Passes.{Run, run-first, run-skip, run-touch, run-last, run-asks}
@@ -15,10 +17,10 @@ use Rattle.scan.proofs.scan_boxed.Statement.{statement}
 use Rattle.scan.proofs.scan_boxed.Tie as tie
 
 abbrev Inv-loop : tie.InvT-loop
-Inv-loop cell cutoff g solutes starts picks room flags table₀ i n k₀ table k = Run (copiesTouch (given cell solutes [] starts picks) cutoff) n i table₀ table k
+Inv-loop cell cutoff solutes starts picks room flags table₀ i n k₀ table k = Run (copiesTouch (given cell solutes [] starts picks) cutoff) n i table₀ table k
 
 abbrev μ-loop : tie.MeasureT-loop
-μ-loop cell cutoff g solutes starts picks room flags table₀ i n k₀ table k = n - k
+μ-loop cell cutoff solutes starts picks room flags table₀ i n k₀ table k = n - k
 
 -- landmarks: from a place back to an earlier one
 abbrev start : tie.After-slice-known2 Inv-loop μ-loop → tie.Start Inv-loop μ-loop
@@ -61,7 +63,22 @@ marked-touch-requires : tie.Need-marked-touch-requires Inv-loop μ-loop
 marked-touch-requires c κs =
     let st = startOf (c .before .before) in
     let h = st .pre .0 .0 in
-    (accepted-sound _ h, ((st .pre .1 .1 .0 .0, accepted-tested _ h _ (st .pre .0 .1)), (st .pre .1 .1 .1, ((st .pre .1 .0 .2, c .before .loop-test .taken, st .pre .1 .1 .0 .1), (omega (arith, st .pre .1 .1 .0 .2), rw (marked (c .before .before) .mark-apart .ensures) (flag-after _ _ _ _ _ _ (st .pre .1 .1 .0 .2) (c .before .before .loop .inv .ahead) (c .before .loop-test .taken)))))))
+    let k = c .before .loop-test .taken in
+    let t = accepted-tested _ h _ (st .pre .0 .1) in
+    let flag = ap (λ (f : List ℕ). getD f (c .before .before .loop .k) 0) (marked (c .before .before) .mark-apart .ensures)
+    ∙ flag-after _ _ _ _ _ _ (st .pre .1 .1 .0 .2) (c .before .before .loop .inv .ahead) k in (
+      accepted-sound _ h,
+      (
+        t,
+        (
+          st .pre .1 .1 .1,
+          (
+            (st .pre .1 .0 .2, k, st .pre .1 .1 .0 .1),
+            (omega (arith, st .pre .1 .1 .0 .2), λ set. marked-apart _ _ _ _ _ _ (accepted-sound _ h) t (st .pre .1 .1 .0 .0) (st .pre .1 .1 .1) (st .pre .1 .0 .2) k (flagged _ _ flag set)),
+          ),
+        ),
+      ),
+    )
 
 add-contact-requires : tie.Need-add-contact-requires Inv-loop μ-loop
 add-contact-requires c κs =

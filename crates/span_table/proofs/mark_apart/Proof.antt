@@ -4,7 +4,7 @@ use mathlib.Core.Path.{ap, ap₂, _∙_}
 use mathlib.Core.Bool.{Bool, cond}
 use Prim.Native.Nat.{_-_}
 use Rattle.spans.specs.declared.Span.{Span}
-use Rattle.spans.specs.Inner.{apartOf}
+use Rattle.span_table.specs.Inner.{apartMarks}
 use Rattle.span_table.proofs.Flags.{Marked, marked-first, marked-next, marked-last}
 use borrow.Author.Needs.{needs}
 use Rattle.span_table.proofs.mark_apart.Statement.{statement}
@@ -27,7 +27,7 @@ loop-again : tie.Need-loop-again Inv-loop μ-loop
 loop-again c =
     let turn = c .before .before .before in
     let at = turn .before in
-    let flag = c .word .ensures ∙ ap (λ (b : Bool). cond b 1 0) (c .before .apart .ensures ∙ ap₂ (λ (b d : Span). apartOf (start (at .before) .args .g) b d) (at .before .span-at .ensures) (c .before .before .span-at2 .ensures)) in
+    let flag = c .word .ensures ∙ ap (λ (b : Bool). cond b 1 0) (c .before .kept-apart .ensures ∙ ap₂ (λ (b d : Span). apartMarks (start (at .before) .args .g) b d) (at .before .span-at .ensures) (c .before .before .span-at2 .ensures)) in
     marked-next _ _ _ _ _ _ _ _ (turn .loop-test .taken) flag (at .loop .inv)
 
 same-length : tie.Need-same-length Inv-loop μ-loop

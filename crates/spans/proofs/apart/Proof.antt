@@ -1,7 +1,7 @@
 -- `spans::apart` meets its contract: the three tests are the definition. Assumes nothing.
 use mathlib.Core.Path.{ap₂}
 use mathlib.Core.Bool.{_||_}
-use Rattle.spans.specs.Inner.{apartOf}
+use Rattle.spans.specs.Inner.{apartBy}
 use borrow.Author.Needs.{needs}
 use Rattle.spans.proofs.apart.Statement.{statement}
 use Rattle.spans.proofs.apart.Tie as tie
@@ -14,7 +14,7 @@ abbrev far-y : tie.After-far3 → tie.After-far2
 far-y c = c .before .before .before .before .before
 
 returns : tie.Need-returns
-unfolding apartOf
+unfolding apartBy
 returns c = ap₂ _||_ (far-x (far-y c) .far .ensures) (ap₂ _||_ (far-y c .far2 .ensures) (c .far3 .ensures))
 
 pub apart-spec : {M : Type 1} → statement M

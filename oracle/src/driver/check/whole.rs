@@ -13,6 +13,19 @@ use original::properties;
 use original::properties::opened::access as rust;
 use reading::{Answer, CUTOFF, FrameInput, FrameWork, HEAD, Picked};
 
+/// The least and the greatest coordinates of a copy's picks.
+fn bounds(mol: &[Vec3]) -> [Vec3; 2] {
+    mol.iter().fold([mol[0]; 2], |[low, high], p| {
+        [Vec3::new(low.x.min(p.x), low.y.min(p.y), low.z.min(p.z)), Vec3::new(high.x.max(p.x), high.y.max(p.y), high.z.max(p.z))]
+    })
+}
+
+/// On some axis there is more than an extent between the two boxes.
+fn apart([a_low, a_high]: &[Vec3; 2], [b_low, b_high]: &[Vec3; 2], e: Vec3) -> bool {
+    let (up, down) = (*b_low - *a_high, *a_low - *b_high);
+    up.x.max(down.x) > e.x || up.y.max(down.y) > e.y || up.z.max(down.z) > e.z
+}
+
 impl Checker<'_> {
     /// The whole frame at each of its cutoffs.
     pub(super) fn frames(&mut self, touches: Option<&mut Touches>) -> Checked {
@@ -34,13 +47,27 @@ impl Checker<'_> {
             indices: &case.indices,
             waters: &case.waters,
         };
-        let mut ask = |p: &Picked, i: usize, j: usize| match touches.n {
-            0 => p.touch(cutoff, i, j),
-            _ => touches.ask(p, cutoff, i, j),
+        let mut boxes = Vec::new();
+        let (mut touching, mut images_apart) = (0, 0);
+        let mut ask = |p: &Picked, i: usize, j: usize| {
+            let touch = match touches.n {
+                0 => p.touch(cutoff, i, j),
+                _ => touches.ask(p, cutoff, i, j),
+            };
+            if touch {
+                if boxes.is_empty() {
+                    boxes = p.mols.iter().map(|mol| bounds(mol)).collect();
+                }
+                touching += 1;
+                images_apart += apart(&boxes[i], &boxes[j], p.cell.extent) as u64;
+            }
+            touch
         };
         let work: Answer<Option<FrameWork>> = reading::frame_picks(&input).map(|some| {
             some.map(|(kept, picked)| FrameWork::new(kept, picked, cutoff, &case.waters, &mut ask))
         });
+        self.stats.touching += touching;
+        self.stats.images_apart += images_apart;
         if self.wants(Call::Original) {
             self.original_agrees(cutoff, &work)?;
         }

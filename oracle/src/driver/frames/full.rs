@@ -1,13 +1,14 @@
-//! Full-size frames: 4,096 copies, 65,536 picks, 65,536 waters, and one more of each. Cheap ones first.
+//! Full-size frames: 4,096 copies, 65,536 picks, 65,536 waters, and one more of each; and large frames that are unwrapped.
 
 use super::parts::{Spread, copies, cube, point, points};
+use super::unwrapped::{Place, large};
 use super::{around, halves};
 use crate::case::{Case, Lent, RowCall};
 use crate::rng::Rng;
 use reading::CUTOFF;
 
 /// What a round of the group holds, with about how many seconds a case takes.
-pub const FULL: [(&str, u64); 16] = [
+pub const FULL: [(&str, u64); 34] = [
     ("4,097 copies", 1),
     ("65,792 picks", 1),
     ("4,096 copies uniform, 5,000 waters", 3),
@@ -24,7 +25,57 @@ pub const FULL: [(&str, u64); 16] = [
     ("4,096 copies of 4 picks, 65,536 waters", 20),
     ("1 copy of 65,536 picks", 3),
     ("4,096 copies of 16 picks, 65,536 waters", 150),
+    // Unwrapped from here on: as UNWRAPPED has them, by up to 1, 3 and 20 images, then the dear ones.
+    ("4,096 copies unwrapped by up to 1 image", 3),
+    ("4,096 copies unwrapped by up to 3 images", 3),
+    ("4,096 copies unwrapped by up to 20 images", 3),
+    ("512 copies of 16 picks unwrapped by up to 1 image", 3),
+    ("512 copies of 16 picks unwrapped by up to 3 images", 3),
+    ("512 copies of 16 picks unwrapped by up to 20 images", 3),
+    ("1,000 copies of 30 picks unwrapped by up to 1 image", 12),
+    ("1,000 copies of 30 picks unwrapped by up to 3 images", 12),
+    ("1,000 copies of 30 picks unwrapped by up to 20 images", 12),
+    ("4 copies of 16,384 picks in one place, touching, unwrapped by up to 1 image", 3),
+    ("4 copies of 16,384 picks in one place, touching, unwrapped by up to 3 images", 3),
+    ("4 copies of 16,384 picks in one place, touching, unwrapped by up to 20 images", 3),
+    ("4 copies of 4,096 picks in one place, about the cutoff apart, unwrapped by up to 1 image", 5),
+    ("4 copies of 4,096 picks in one place, about the cutoff apart, unwrapped by up to 3 images", 5),
+    ("4 copies of 4,096 picks in one place, about the cutoff apart, unwrapped by up to 20 images", 5),
+    ("4,096 copies of 16 picks, crowded and unwrapped", 10),
+    ("4,096 copies of 16 picks, about the cutoff apart and unwrapped", 100),
+    ("4 copies of 16,384 picks in one place, about the cutoff apart and unwrapped", 80),
 ];
+
+/// Where the unwrapped ones begin, what those by 1, 3 and 20 images are, and the dear ones, which take one of the three.
+const FIRST_UNWRAPPED: usize = 16;
+const IMAGES: [usize; 3] = [1, 3, 20];
+const UNWRAPPED: [(usize, usize, Kind); 5] =
+    [(4_096, 1, Kind::Box), (512, 16, Kind::Box), (1_000, 30, Kind::Box), (4, 16_384, Kind::Touching), (4, 4_096, Kind::Apart)];
+const DEAR: [(usize, usize, Kind); 3] = [(4_096, 16, Kind::Crowded), (4_096, 16, Kind::Lattice), (4, 16_384, Kind::Apart)];
+
+#[derive(Clone, Copy)]
+enum Kind {
+    Box,
+    Crowded,
+    Lattice,
+    Touching,
+    Apart,
+}
+
+fn unwrapped(at: usize, reach: f32, rng: &mut Rng) -> Case {
+    let ((n, per, kind), images) = match UNWRAPPED.get(at / IMAGES.len()) {
+        Some(&size) => (size, IMAGES[at % IMAGES.len()]),
+        None => (DEAR[at - IMAGES.len() * UNWRAPPED.len()], rng.pick(&IMAGES)),
+    };
+    let place = match kind {
+        Kind::Box => Place::Box(rng.pick(&[53.0, 125.0, 160.0])),
+        Kind::Crowded => Place::Box(rng.pick(&[12.0, 20.0])),
+        Kind::Lattice => Place::Lattice,
+        Kind::Touching => Place::Together(rng.pick(&[0.5, 0.999, 1.0])),
+        Kind::Apart => rng.pick(&[Place::Together(1.000_01), Place::Together(1.001), Place::Slabs]),
+    };
+    large(n, per, place, images, reach, rng)
+}
 
 pub fn full(number: u64, reach: f32, rng: &mut Rng) -> Case {
     let at = number as usize % FULL.len();
@@ -105,11 +156,12 @@ pub fn full(number: u64, reach: f32, rng: &mut Rng) -> Case {
             c.solutes = points(65_536, &cell, Spread::Mixed, 0, rng);
             c.waters = waters(65_536, rng);
         }
-        _ => {
+        15 => {
             c.per = 16;
             c.solutes = plain(4_096, 16, rng);
             c.waters = waters(65_536, rng);
         }
+        _ => c = Case { shape: c.shape, ..unwrapped(at - FIRST_UNWRAPPED, reach, rng) },
     }
     let mut c = around(c, rng);
     let n = c.atoms() / c.per;
