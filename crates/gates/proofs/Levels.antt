@@ -3,14 +3,13 @@
 -- order is used. Assumes nothing.
 use mathlib.Core.Path.{_≡_, refl, sym, subst}
 use mathlib.Core.Logic.{inl, inr}
-use mathlib.Core.Bool.{Bool, true, false, _&&_}
-use Prim.Native.Nat.{ℕ, _^_}
+use mathlib.Core.Bool.{Bool, true, false}
+use Prim.Native.Nat.{_^_}
 use lib.Dec.{T, lit≤}
 use lib.Ieee.{Float, nan, inf, fin, binary32, neg, add, sub, mul, lt, le, eq}
 use lib.Ieee.Scale.{finite}
 use Rattle.floats.specs.Constants.{zero32}
 use Rattle.floats.specs.Order.{larger}
-use Rattle.floats.proofs.Tests.{holds, both}
 use Rattle.floats.proofs.Bounds.{Within, exact-pow, mul-within, add-within}
 use Rattle.floats.proofs.Quotients.{within-finite}
 use Rattle.floats.proofs.Signs.{neg-finite}

@@ -1,8 +1,8 @@
 -- The tests of one axis, by a gate, by images and by the gates of many turns, reject alike: what passes one of them between lo and hi is apart.
 -- Assumes nothing.
-use mathlib.Core.Path.{_≡_, refl}
-use mathlib.Core.Bool.{Bool, true, false, cond}
-use Prim.Native.Nat.{ℕ, _+_, _^_, _≤_}
+use mathlib.Core.Path.{_≡_}
+use mathlib.Core.Bool.{Bool, true, false}
+use Prim.Native.Nat.{_^_, _≤_}
 use native.Mathlib.Omega.{arith}
 use lib.Bits.{and-le-r}
 use lib.Dec.{T, ltb, ltb→lt}
@@ -16,7 +16,7 @@ use Rattle.gates.specs.declared.AxisTurns.{AxisTurns}
 use Rattle.gates.specs.Inner.{gateAt, endsAt, gateStart, farOf, farImages, rejectsOf, guessOf, farTurns, SureAxis}
 use Rattle.gates.proofs.Axes.{Axis}
 use Rattle.gates.proofs.Squares.{cutoff-finite}
-use Rattle.gates.proofs.Sure.{Apart, Sure, certified-sure, gate-sure}
+use Rattle.gates.proofs.Sure.{Apart, certified-sure, gate-sure}
 use Rattle.gates.proofs.Ends.{far-sound}
 use Rattle.gates.proofs.Images.{images-sound}
 

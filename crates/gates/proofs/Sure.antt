@@ -8,7 +8,7 @@ use Prim.Native.Nat.{ℕ, _+_, _^_, _≤_}
 use native.Mathlib.Nat.{zero-lt-suc}
 use native.Mathlib.Omega.{arith}
 use lib.Dec.{T, lit≤}
-use lib.Ieee.{Float, binary32, ofBits, ofInt, round, neg, add, mul, div, lt, le}
+use lib.Ieee.{Float, binary32, ofBits, ofInt, neg, mul, div, lt, le}
 use lib.Ieee.Scale.{finite}
 use Rattle.floats.proofs.Tests.{holds, both}
 use Rattle.floats.proofs.Bounds.{Within, exact-pow, within-neg, round-within, tested as size-tested}

@@ -158,7 +158,7 @@ pub struct Screen {
     pub g: Gates,
 }
 
-// The screen by gates.
+// The screen of a cell at the cutoff.
 pub fn screen_of(cell: Cell, cutoff: f32, wide: bool) -> Screen
     ensures { λ s. ⌜ s ≡ screenOf wide cutoff (extentOf cell) ⌝ }
 {

@@ -1,5 +1,5 @@
 -- Copies whose boxes in the span table are kept apart do not touch, by gates or by the gates of many turns. Assumes nothing.
-use mathlib.Core.Path.{_≡_, refl}
+use mathlib.Core.Path.{_≡_}
 use mathlib.Core.Bool.{Bool, true, false, cond}
 use mathlib.Core.List.{List}
 use Prim.Native.Nat.{ℕ, _<_}

@@ -1,6 +1,6 @@
 -- Boxes on a level. Each separation from one to the other takes off as many extents as the least of them, so that its image is the separation less those
 -- extents, and a point whose gap from the box is clear of the cutoff is near none of its picks. Assumes nothing.
-use mathlib.Core.Path.{_≡_, refl, sym, _∙_}
+use mathlib.Core.Path.{_≡_, refl}
 use mathlib.Core.Bool.{Bool, true, false, _&&_, cond}
 use mathlib.Core.List.{List}
 use Prim.Native.Nat.{ℕ, _≤_, _<_}
@@ -26,7 +26,7 @@ use Rattle.gates.proofs.Atoms.{image-around}
 use Rattle.spans.specs.declared.Span.{Span}
 use Rattle.spans.specs.declared.Level.{Level}
 use Rattle.spans.specs.Inner.{spanOf, pointSpan, apartBy, apartImages, levelAxis, levelOf, clearBy, passedOver, nearOn}
-use Rattle.spans.proofs.Between.{Between, Separated, separated, itself, Inside, some-axis, apart-near, images-tests, point-inside, pick-inside, none-in, Finite, begins}
+use Rattle.spans.proofs.Between.{Between, separated, itself, Inside, some-axis, apart-near, images-tests, point-inside, pick-inside, none-in, Finite, begins}
 
 -- ---- one axis: p from p₀ to p₁, q from q₀ to q₁
 module _ (e p₀ p p₁ q₀ q q₁ : Float) (E : Axis e) (P : Between p₀ p p₁) (Q : Between q₀ q q₁) (level : levelAxis e (sub binary32 q₀ p₁) (sub binary32 q₁ p₀) ≡ true) where

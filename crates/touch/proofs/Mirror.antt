@@ -1,7 +1,7 @@
 -- The mirror law: the axes' laws of `cell` on all three axes, and a pair of picks that is as near from either end, so that a search of the pairs finds one
 -- both ways round or neither. The picks of input that no test refuses are finite and within the limits, so that their separations are finite. Assumes nothing.
-use mathlib.Core.Path.{_≡_, refl, sym, ap, _∙_, fun-ext}
-use mathlib.Core.Bool.{Bool, true, false, _&&_, _||_}
+use mathlib.Core.Path.{_≡_, sym, ap, _∙_, fun-ext}
+use mathlib.Core.Bool.{Bool, true, _&&_, _||_}
 use mathlib.Core.List.{List, [], _∷_}
 use Prim.Native.Nat.{ℕ, _<_}
 use lib.Dec.{lit≤}

@@ -1,5 +1,5 @@
 -- `span_table::spread` ends, and reads boxes of the table alone. Invariant: j is within the copies; measure n - j. Assumes nothing.
-use Prim.Native.Nat.{_-_, _≤_, _<_, zero-le}
+use Prim.Native.Nat.{_-_, _≤_, zero-le}
 use native.Mathlib.Omega.{arith}
 use borrow.Author.Needs.{needs}
 use Rattle.span_table.proofs.spread.Statement.{statement}
