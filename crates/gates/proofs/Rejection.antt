@@ -32,7 +32,7 @@ module _ (k e : Float) (K : soundReach k ≡ true) (E : Axis e) where
   pub gate-rejects : Rejects k e (farOf (gateAt k 0 e))
   gate-rejects lo d hi wl w wh = far-sound k (gateAt k 0 e) e lo d hi (gate-sure k 0 e K (omega arith) E) (within-finite (2 ^ 21) lo wl) (within-finite (2 ^ 21) hi wh) w
 
-  pub images-rejects : Rejects k e (farImages k e)
+  images-rejects : Rejects k e (farImages k e)
   images-rejects lo d hi wl w wh hl hh = images-sound k lo hi e d (cutoff-finite k K) E wl wh w hl hh
 
   pub screen-rejects : (wide : Bool) → Rejects k e (rejectsOf wide k e (gateAt k 0 e))

@@ -6,7 +6,7 @@ ghost use mathlib.Core.Path.{_≡_};
 ghost use mathlib.Core.Bool.{true, _||_};
 ghost use Prim.Native.Nat.{ℕ, _+_, _<_, _≤_};
 ghost use Rattle.cell.specs.Cell.{extentOf};
-ghost use Rattle.gates.specs.Inner.{turnsOf, clearRight, clearLeft, holdsAt, short as shortOf, endsAt, certified as certifiedOf, gateAt, gatesOf, farOf, farEnds, farImages, rejectsOf, screenOf, guessOf, farTurns, SureAxis, SureTurns};
+ghost use Rattle.gates.specs.Inner.{turnsOf, clearRight, clearLeft, holdsAt, short as shortOf, endsAt, certified as certifiedOf, gateAt, gatesOf, farOf, farEnds, rejectsOf, screenOf, guessOf, farTurns, SureAxis, SureTurns};
 use cell::Cell;
 use cell::Vec3;
 use numbers::order::larger;
@@ -140,16 +140,6 @@ fn far_ends(cutoff: f32, e: f32, lo: f32, hi: f32) -> bool
     holds(cutoff, k, k + 1.0, lo, hi, e)
 }
 
-// The same. Where lo is hi, as of two single picks, one division is enough.
-pub fn far_images(cutoff: f32, e: f32, lo: f32, hi: f32) -> bool
-    ensures { λ r. ⌜ r ≡ farImages cutoff e lo hi ⌝ }
-{
-    if lo == hi {
-        return clear(cutoff, lo, e);
-    }
-    far_ends(cutoff, e, lo, hi)
-}
-
 // How the copies of a row are told apart: by the gates, or, where some stand over an extent away, by images.
 pub struct Screen {
     pub wide: bool,
@@ -189,7 +179,7 @@ pub fn rejects(wide: bool, cutoff: f32, e: f32, g: Gate, lo: f32, hi: f32) -> bo
     ensures { λ r. ⌜ r ≡ rejectsOf wide cutoff e g lo hi ⌝ }
 {
     if wide {
-        // As `far_images`, in this place: between single picks the loop over copies has no call.
+        // As of two single picks: one division is enough.
         if lo == hi {
             return clear(cutoff, lo, e);
         }

@@ -25,14 +25,14 @@ use Rattle.touch.proofs.Any.{any-none}
 use Rattle.gates.specs.declared.Gates.{Gates}
 use Rattle.gates.specs.declared.Screen.{Screen}
 use Rattle.gates.specs.declared.TurnGates.{TurnGates}
-use Rattle.gates.specs.Inner.{gatesOf, farOf, farImages, rejectsOf, screenOf, farTurns, SureTurns, tested}
+use Rattle.gates.specs.Inner.{gatesOf, farOf, rejectsOf, screenOf, farTurns, SureTurns, tested}
 use Rattle.floats.proofs.Order.{le-refl-finite}
 use Rattle.gates.proofs.Axes.{tested-is, tested-axes, tested-atom}
 use Rattle.gates.proofs.Sure.{Apart}
-use Rattle.gates.proofs.Rejection.{Rejects, gate-rejects, images-rejects, screen-rejects, turns-rejects}
+use Rattle.gates.proofs.Rejection.{Rejects, gate-rejects, screen-rejects, turns-rejects}
 use Rattle.gates.proofs.Atoms.{apart-x, apart-y, apart-z}
 use Rattle.spans.specs.declared.Span.{Span}
-use Rattle.spans.specs.Inner.{coordinate, leastOf, greatestOf, spanOf, pointSpan, apartBy}
+use Rattle.spans.specs.Inner.{coordinate, leastOf, greatestOf, spanOf, apartBy}
 use Rattle.spans.proofs.Least.{AllIn, ended}
 
 -- ---- one axis: p from p₀ to p₁, q from q₀ to q₁
@@ -126,13 +126,6 @@ module _ (c : Cell) (k : Float) (xs : List Float) (h : tested c k xs ≡ true) w
       let E = tested-axes c k xs h in
       rw is (record { on-x = gate-rejects k (e .x) K (E .on-x); on-y = gate-rejects k (e .y) K (E .on-y); on-z = gate-rejects k (e .z) K (E .on-z) })
 
-  pub images-tests : Tests k (extentOf c) (farImages k (extentOf c .x)) (farImages k (extentOf c .y)) (farImages k (extentOf c .z))
-  images-tests =
-      let e = extentOf c in
-      let K = tested-is c k xs h .reach in
-      let E = tested-axes c k xs h in
-      record { on-x = images-rejects k (e .x) K (E .on-x); on-y = images-rejects k (e .y) K (E .on-y); on-z = images-rejects k (e .z) K (E .on-z) }
-
   pub screen-tests : (s : Screen) (w : Bool) → s ≡ screenOf w k (extentOf c)
       → Tests k (extentOf c) (rejectsOf (s .wide) (s .cutoff) (s .e .x) (s .g .x)) (rejectsOf (s .wide) (s .cutoff) (s .e .y) (s .g .y)) (rejectsOf (s .wide) (s .cutoff) (s .e .z) (s .g .z))
   unfolding screenOf gatesOf
@@ -148,12 +141,6 @@ module _ (c : Cell) (k : Float) (xs : List Float) (h : tested c k xs ≡ true) w
       let K = tested-is c k xs h .reach in
       let E = tested-axes c k xs h in
       record { on-x = turns-rejects k (e .x) K (E .on-x) (s .x) (sure .0); on-y = turns-rejects k (e .y) K (E .on-y) (s .y) (sure .1); on-z = turns-rejects k (e .z) K (E .on-z) (s .z) (sure .2) }
-
-  -- ---- an atom lies in its own box
-  pub point-inside : (p : ℕ) → finitePoint (pointAt xs p) ≡ true → Inside (pointSpan (pointAt xs p)) (pointAt xs p)
-  point-inside p f =
-      let a = tested-atom c k xs h p f in
-      record { on-x = itself (pointAt xs p .x) (a .on-x); on-y = itself (pointAt xs p .y) (a .on-y); on-z = itself (pointAt xs p .z) (a .on-z) }
 
   -- ---- a pick lies in the box of its copy
   module _ (ps : List ℕ) (some : 0 < length ps) (f : (k : ℕ) → k < length ps → finitePoint (pointAt xs (getD ps k 0)) ≡ true) where

@@ -17,7 +17,7 @@ use Rattle.cell.specs.declared.Cell.{Cell}
 use Rattle.cell.specs.declared.Vec3.{Vec3}
 use Rattle.cell.specs.Cell.{imageAxis, extentOf, minus, minImage, distance2, squared, pointAt, finitePoint}
 use Rattle.touch.specs.Touch.{cutoff2, near, anyIn}
-use Rattle.gates.specs.Inner.{turnsOf, farImages, tested}
+use Rattle.gates.specs.Inner.{turnsOf, tested}
 use Rattle.gates.proofs.Axes.{Axis, Axes, tested-is, tested-axes}
 use Rattle.gates.proofs.Squares.{cutoff-finite}
 use Rattle.gates.proofs.Sure.{Apart}
@@ -25,21 +25,23 @@ use Rattle.gates.proofs.Levels.{Same, level-image, level-clear, sized-on, same-
 use Rattle.gates.proofs.Atoms.{image-around}
 use Rattle.spans.specs.declared.Span.{Span}
 use Rattle.spans.specs.declared.Level.{Level}
-use Rattle.spans.specs.Inner.{spanOf, pointSpan, apartBy, apartImages, levelAxis, levelOf, clearBy, passedOver, nearOn}
-use Rattle.spans.proofs.Between.{Between, separated, itself, Inside, some-axis, apart-near, images-tests, point-inside, pick-inside, none-in, Finite, begins}
+use Rattle.spans.specs.Inner.{spanOf, pointSpan, apartBy, levelAxis, levelOf, clearBy, passedOver, nearOn}
+use Rattle.spans.proofs.Between.{Between, separated, itself, Inside, some-axis, pick-inside, none-in, Finite, begins}
 
 -- ---- one axis: p from p₀ to p₁, q from q₀ to q₁
-module _ (e p₀ p p₁ q₀ q q₁ : Float) (E : Axis e) (P : Between p₀ p p₁) (Q : Between q₀ q q₁) (level : levelAxis e (sub binary32 q₀ p₁) (sub binary32 q₁ p₀) ≡ true) where
-  level-is : T (le (turnsOf (sub binary32 q₁ p₀) e) (turnsOf (sub binary32 q₀ p₁) e))
+module _ (e p₀ p p₁ q₀ q q₁ : Float) (E : Axis e) (P : Between p₀ p p₁) (Q : Between q₀ q q₁) where
+  level-is : levelAxis e (sub binary32 q₀ p₁) (sub binary32 q₁ p₀) ≡ true → T (le (turnsOf (sub binary32 q₁ p₀) e) (turnsOf (sub binary32 q₀ p₁) e))
   unfolding levelAxis
-  level-is = holds level
+  level-is level = holds level
 
-  axis-same : Same (sub binary32 (sub binary32 q p) (mul binary32 e (turnsOf (sub binary32 q₀ p₁) e))) (imageAxis (sub binary32 q p) e)
-  axis-same =
+  axis-same : levelAxis e (sub binary32 q₀ p₁) (sub binary32 q₁ p₀) ≡ true
+      → Same (sub binary32 (sub binary32 q p) (mul binary32 e (turnsOf (sub binary32 q₀ p₁) e))) (imageAxis (sub binary32 q p) e)
+  axis-same level =
       let s = separated p₀ p p₁ q₀ q q₁ P Q in
-      level-image (sub binary32 q₀ p₁) (sub binary32 q₁ p₀) e E (s .lo-in) (s .hi-in) level-is (sub binary32 q p) (s .d-in) (s .from) (s .to)
+      level-image (sub binary32 q₀ p₁) (sub binary32 q₁ p₀) e E (s .lo-in) (s .hi-in) (level-is level) (sub binary32 q p) (s .d-in) (s .from) (s .to)
 
-  axis-clear : (k : Float) → T (finite (cutoff2 k)) → clearBy k (mul binary32 e (turnsOf (sub binary32 q₀ p₁) e)) (sub binary32 q₀ p) (sub binary32 q₁ p) ≡ true → Apart k (sub binary32 q p) e
+  axis-clear : (k : Float) → T (finite (cutoff2 k))
+      → clearBy (levelAxis e (sub binary32 q₀ p₁) (sub binary32 q₁ p₀)) k (mul binary32 e (turnsOf (sub binary32 q₀ p₁) e)) (sub binary32 q₀ p) (sub binary32 q₁ p) ≡ true → Apart k (sub binary32 q p) e
   unfolding clearBy
   axis-clear k fk t =
       let s = separated p₀ p p₁ q₀ q q₁ P Q in
@@ -49,8 +51,9 @@ module _ (e p₀ p p₁ q₀ q q₁ : Float) (E : Axis e) (P : Between p₀ p p�
       let pt = separated p p p q₀ q q₁ own Q in
       let by = mul binary32 e (turnsOf (sub binary32 q₀ p₁) e) in
       let gap = larger (sub binary32 (sub binary32 q₀ p) by) (neg (sub binary32 (sub binary32 q₁ p) by)) in
-      let g = both (lt zero32 gap) (lt (cutoff2 k) (mul binary32 gap gap)) t in
-      level-clear (sub binary32 q₀ p₁) (sub binary32 q₁ p₀) e E (s .lo-in) (s .hi-in) level-is k (sub binary32 q₀ p) (sub binary32 q p) (sub binary32 q₁ p) fk (pt .lo-in) (s .d-in) (pt .hi-in)
+      let on = both (levelAxis e (sub binary32 q₀ p₁) (sub binary32 q₁ p₀)) (lt zero32 gap && lt (cutoff2 k) (mul binary32 gap gap)) t in
+      let g = both (lt zero32 gap) (lt (cutoff2 k) (mul binary32 gap gap)) (on .1) in
+      level-clear (sub binary32 q₀ p₁) (sub binary32 q₁ p₀) e E (s .lo-in) (s .hi-in) (level-is (on .0)) k (sub binary32 q₀ p) (sub binary32 q p) (sub binary32 q₁ p) fk (pt .lo-in) (s .d-in) (pt .hi-in)
       (low .from) (pt .from) (pt .to) (high .to) (holds (g .0)) (holds (g .1))
     where
       first : Between q₀ q q₁ → Between q₀ q₀ q₁
@@ -100,25 +103,15 @@ module _ (c : Cell) (k : Float) (xs : List Float) (h : tested c k xs ≡ true) (
           (sized-on (minImage e (minus (pointAt xs q) (pointAt xs p))) (image-around c k xs h p q fp fq))
 
   -- a point that is passed over is not near
-  pub passed-near : passedOver k e (levelOf e b s) (pointAt xs p) s ≡ true → near k e xs p q ≡ false
+  pub passed-near : passedOver k (levelOf e b s) (pointAt xs p) s ≡ true → near k e xs p q ≡ false
   unfolding passedOver levelOf
-  passed-near t = go (sx && (sy && sz)) refl t
-    where
-      by : Vec3
-      by = levelOf e b s .by
-
-      go : (u : Bool) → sx && (sy && sz) ≡ u
-          → cond u (apartBy (clearBy k (by .x)) (clearBy k (by .y)) (clearBy k (by .z)) (pointSpan (pointAt xs p)) s) (apartImages k e (pointSpan (pointAt xs p)) s) ≡ true → near k e xs p q ≡ false
-      go false u =
-          apart-near c k xs h (farImages k (e .x)) (farImages k (e .y)) (farImages k (e .z)) (images-tests c k xs h) (pointSpan (pointAt xs p)) s p q fp fq (point-inside c k xs h p fp) Q
-      go true u =
-          let a = both sx (sy && sz) u in
-          let d = both sy sz (a .1) in
-          let fk = cutoff-finite k (tested-is c k xs h .reach) in
-          some-axis c k xs h (clearBy k (by .x)) (clearBy k (by .y)) (clearBy k (by .z)) (pointSpan (pointAt xs p)) s p q fp fq
-          (axis-clear (e .x) (b .low .x) (pointAt xs p .x) (b .high .x) (s .low .x) (pointAt xs q .x) (s .high .x) (E .on-x) (P .on-x) (Q .on-x) (a .0) k fk)
-          (axis-clear (e .y) (b .low .y) (pointAt xs p .y) (b .high .y) (s .low .y) (pointAt xs q .y) (s .high .y) (E .on-y) (P .on-y) (Q .on-y) (d .0) k fk)
-          (axis-clear (e .z) (b .low .z) (pointAt xs p .z) (b .high .z) (s .low .z) (pointAt xs q .z) (s .high .z) (E .on-z) (P .on-z) (Q .on-z) (d .1) k fk)
+  passed-near =
+      let by = levelOf e b s .by in
+      let fk = cutoff-finite k (tested-is c k xs h .reach) in
+      some-axis c k xs h (clearBy sx k (by .x)) (clearBy sy k (by .y)) (clearBy sz k (by .z)) (pointSpan (pointAt xs p)) s p q fp fq
+      (axis-clear (e .x) (b .low .x) (pointAt xs p .x) (b .high .x) (s .low .x) (pointAt xs q .x) (s .high .x) (E .on-x) (P .on-x) (Q .on-x) k fk)
+      (axis-clear (e .y) (b .low .y) (pointAt xs p .y) (b .high .y) (s .low .y) (pointAt xs q .y) (s .high .y) (E .on-y) (P .on-y) (Q .on-y) k fk)
+      (axis-clear (e .z) (b .low .z) (pointAt xs p .z) (b .high .z) (s .low .z) (pointAt xs q .z) (s .high .z) (E .on-z) (P .on-z) (Q .on-z) k fk)
 
 -- ---- a pick of ps against the list qs and its box
 module _ (c : Cell) (k : Float) (xs : List Float) (h : tested c k xs ≡ true) (ps qs : List ℕ) (some : 0 < length qs) (f : Finite xs ps) (g : Finite xs qs) (i : ℕ) (l : i < length ps) where
@@ -130,15 +123,15 @@ module _ (c : Cell) (k : Float) (xs : List Float) (h : tested c k xs ≡ true) (
   pick-near j m =
       level-near c k xs h (spanOf xs ps) (spanOf xs qs) (getD ps i 0) (getD qs j 0) (f i l) (g j m) (pick-inside c k xs h ps any-ps f i l) (pick-inside c k xs h qs some g j m)
 
-  pick-passed : passedOver k (extentOf c) (levelOf (extentOf c) (spanOf xs ps) (spanOf xs qs)) (pointAt xs (getD ps i 0)) (spanOf xs qs) ≡ true → anyIn (near k (extentOf c) xs (getD ps i 0)) qs ≡ false
+  pick-passed : passedOver k (levelOf (extentOf c) (spanOf xs ps) (spanOf xs qs)) (pointAt xs (getD ps i 0)) (spanOf xs qs) ≡ true → anyIn (near k (extentOf c) xs (getD ps i 0)) qs ≡ false
   pick-passed t =
       none-in (near k (extentOf c) xs (getD ps i 0)) qs
       (λ j m. passed-near c k xs h (spanOf xs ps) (spanOf xs qs) (getD ps i 0) (getD qs j 0) (f i l) (g j m) (pick-inside c k xs h ps any-ps f i l) (pick-inside c k xs h qs some g j m) t)
 
   -- as the code has it: the extent e, the level, the box s of the list, the pick's point and another's
   module _ (e : Vec3) (level : Level) (s : Span) (at : Vec3) (ee : e ≡ extentOf c) (el : level ≡ levelOf (extentOf c) (spanOf xs ps) s) (es : s ≡ spanOf xs qs) (ea : at ≡ pointAt xs (getD ps i 0)) where
-    pub begins-pick : (j : ℕ) → j ≡ cond (passedOver k e level at s) (length qs) 0 → (j ≤ length qs) × (anyIn (near k e xs (getD ps i 0)) (drop j qs) ≡ anyIn (near k e xs (getD ps i 0)) qs)
-    begins-pick j ej = begins (near k e xs (getD ps i 0)) qs (passedOver k e level at s) j ej (λ on. rw ee (pick-passed (rw (el, ee, ea, es) at on)))
+    pub begins-pick : (j : ℕ) → j ≡ cond (passedOver k level at s) (length qs) 0 → (j ≤ length qs) × (anyIn (near k e xs (getD ps i 0)) (drop j qs) ≡ anyIn (near k e xs (getD ps i 0)) qs)
+    begins-pick j ej = begins (near k e xs (getD ps i 0)) qs (passedOver k level at s) j ej (λ on. rw ee (pick-passed (rw (el, ea, es) at on)))
 
     pub nears-pick : (j : ℕ) (to : Vec3) → j < length qs → to ≡ pointAt xs (getD qs j 0) → nearOn k e level at to ≡ near k e xs (getD ps i 0) (getD qs j 0)
     nears-pick j to m et = rw (el, ee, ea, et, es) (pick-near j m)

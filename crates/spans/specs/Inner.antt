@@ -15,7 +15,7 @@ use Rattle.gates.specs.declared.Screen.{Screen}
 use Rattle.gates.specs.declared.TurnGates.{TurnGates}
 use Rattle.touch.specs.Touch.{cutoff2}
 use Rattle.floats.specs.Order.{larger, smaller}
-use Rattle.gates.specs.Inner.{turnsOf, farOf, farImages, rejectsOf, farTurns}
+use Rattle.gates.specs.Inner.{turnsOf, farOf, rejectsOf, farTurns}
 use Rattle.spans.specs.declared.Span.{Span}
 use Rattle.spans.specs.declared.Level.{Level}
 
@@ -66,10 +66,6 @@ apartBy x y z b c =
 abbrev pub apartOf : Gates → Span → Span → Bool
 apartOf g = apartBy (farOf (g .x)) (farOf (g .y)) (farOf (g .z))
 
--- by images
-abbrev pub apartImages : Float → Vec3 → Span → Span → Bool
-apartImages k e = apartBy (farImages k (e .x)) (farImages k (e .y)) (farImages k (e .z))
-
 -- by the gates of many turns
 abbrev pub apartTurns : TurnGates → Span → Span → Bool
 apartTurns s = apartBy (farTurns (s .x)) (farTurns (s .y)) (farTurns (s .z))
@@ -94,13 +90,13 @@ outsideOf e b c =
 unfoldable pub levelAxis : Float → Float → Float → Bool
 levelAxis e lo hi = le (turnsOf hi e) (turnsOf lo e)
 
--- whether they are on all three, and what the images then are less than the separations
+-- on which axes they are, and what the images there are less than the separations
 unfoldable pub levelOf : Vec3 → Span → Span → Level
 levelOf e b c =
     record {
-      sure = levelAxis (e .x) (sub binary32 (c .low .x) (b .high .x)) (sub binary32 (c .high .x) (b .low .x))
-          && (levelAxis (e .y) (sub binary32 (c .low .y) (b .high .y)) (sub binary32 (c .high .y) (b .low .y))
-          && levelAxis (e .z) (sub binary32 (c .low .z) (b .high .z)) (sub binary32 (c .high .z) (b .low .z)));
+      x = levelAxis (e .x) (sub binary32 (c .low .x) (b .high .x)) (sub binary32 (c .high .x) (b .low .x));
+      y = levelAxis (e .y) (sub binary32 (c .low .y) (b .high .y)) (sub binary32 (c .high .y) (b .low .y));
+      z = levelAxis (e .z) (sub binary32 (c .low .z) (b .high .z)) (sub binary32 (c .high .z) (b .low .z));
       by = record {
         x = mul binary32 (e .x) (turnsOf (sub binary32 (c .low .x) (b .high .x)) (e .x));
         y = mul binary32 (e .y) (turnsOf (sub binary32 (c .low .y) (b .high .y)) (e .y));
@@ -108,21 +104,21 @@ levelOf e b c =
       };
     }
 
--- on an axis of boxes on a level, the separations from lo to hi have images clear of the cutoff k
-unfoldable pub clearBy : Float → Float → Float → Float → Bool
+-- the axis is one on which the boxes are on a level, and the separations from lo to hi have images clear of the cutoff k there
+unfoldable pub clearBy : Bool → Float → Float → Float → Float → Bool
 unfolding larger
-clearBy k by lo hi =
+clearBy level k by lo hi =
     let gap = larger (sub binary32 lo by) (neg (sub binary32 hi by)) in
-    lt zero32 gap && lt (cutoff2 k) (mul binary32 gap gap)
+    level && (lt zero32 gap && lt (cutoff2 k) (mul binary32 gap gap))
 
--- a point that is far from the whole box c: by the level, or by images
-unfoldable pub passedOver : Float → Vec3 → Level → Vec3 → Span → Bool
+-- a point that is far from the whole box c
+unfoldable pub passedOver : Float → Level → Vec3 → Span → Bool
 unfolding clearBy
-passedOver k e l p c = cond (l .sure) (apartBy (clearBy k (l .by .x)) (clearBy k (l .by .y)) (clearBy k (l .by .z)) (pointSpan p) c) (apartImages k e (pointSpan p) c)
+passedOver k l p c = apartBy (clearBy (l .x) k (l .by .x)) (clearBy (l .y) k (l .by .y)) (clearBy (l .z) k (l .by .z)) (pointSpan p) c
 
--- points p and q are at most the cutoff apart: by the level, or by the minimum image
+-- points p and q are at most the cutoff apart: by the level, where the boxes are on one on all axes, or by the minimum image
 unfoldable pub nearOn : Float → Vec3 → Level → Vec3 → Vec3 → Bool
-nearOn k e l p q = cond (l .sure) (le (squared (minus (minus q p) (l .by))) (cutoff2 k)) (le (distance2 e p q) (cutoff2 k))
+nearOn k e l p q = cond (l .x && (l .y && l .z)) (le (squared (minus (minus q p) (l .by))) (cutoff2 k)) (le (distance2 e p q) (cutoff2 k))
 
 -- the first number from j on that fails a test, or the one after the k numbers from j on
 unfoldable pub firstPast : (ℕ → Bool) → ℕ → ℕ → ℕ

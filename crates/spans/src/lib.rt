@@ -13,7 +13,7 @@ ghost use Rattle.pick_lists.specs.Sound.{soundLists, copies, pickList};
 ghost use Rattle.pick_lists.specs.Input.{given};
 ghost use Rattle.touch.specs.Touch.{near as nearOf, anyPair, copiesTouch};
 ghost use Rattle.gates.specs.Inner.{tested};
-ghost use Rattle.spans.specs.Inner.{coordinate as coordinateOf, leastOf, greatestOf, spanOf, pointSpan, apartOf, apartTurns, apartImages, outsideOf, levelAxis, levelOf, clearBy, passedOver, nearOn, apartScreen, apartFrom, firstPast, partOf, FinitePicks};
+ghost use Rattle.spans.specs.Inner.{coordinate as coordinateOf, leastOf, greatestOf, spanOf, apartOf, apartTurns, outsideOf, levelAxis, levelOf, clearBy, passedOver, nearOn, apartScreen, apartFrom, firstPast, partOf, FinitePicks};
 use cell::Cell;
 use cell::Vec3;
 use gates::Gates;
@@ -60,13 +60,6 @@ pub struct Span {
     pub high: Vec3,
 }
 
-// The box of one point.
-fn point_span(p: Vec3) -> Span
-    ensures { λ r. ⌜ r ≡ pointSpan p ⌝ }
-{
-    Span { low: p, high: p }
-}
-
 // Whether a gate keeps the boxes apart on some axis. All three are worked out, so that no branch turns on one of them.
 pub fn apart(g: Gates, b: Span, c: Span) -> bool
     ensures { λ r. ⌜ r ≡ apartOf g b c ⌝ }
@@ -85,15 +78,6 @@ pub fn apart_turns(s: TurnGates, b: Span, c: Span) -> bool
             | gates::far_turns(s.z, c.low.z - b.high.z, c.high.z - b.low.z))
 }
 
-// The same by images.
-fn apart_images(cutoff: f32, e: Vec3, b: Span, c: Span) -> bool
-    ensures { λ r. ⌜ r ≡ apartImages cutoff e b c ⌝ }
-{
-    gates::far_images(cutoff, e.x, c.low.x - b.high.x, c.high.x - b.low.x)
-        | (gates::far_images(cutoff, e.y, c.low.y - b.high.y, c.high.y - b.low.y)
-            | gates::far_images(cutoff, e.z, c.low.z - b.high.z, c.high.z - b.low.z))
-}
-
 // Whether the boxes stand over an extent apart, where gates say nothing.
 pub fn outside(e: Vec3, b: Span, c: Span) -> bool
     ensures { λ r. ⌜ r ≡ outsideOf e b c ⌝ }
@@ -105,9 +89,12 @@ pub fn outside(e: Vec3, b: Span, c: Span) -> bool
 
 // ---- two boxes on a level
 
-// Where `sure`, every separation from one box to the other takes off the same number of extents: its image is the separation less `by`.
+// On the axes x, y, z where it holds, every separation from one box to the other takes off the same number of extents: its image is the separation less
+// `by`.
 pub struct Level {
-    pub sure: bool,
+    pub x: bool,
+    pub y: bool,
+    pub z: bool,
     pub by: Vec3,
 }
 
@@ -117,14 +104,15 @@ fn level_axis(e: f32, lo: f32, hi: f32) -> bool
     gates::turns(hi, e) <= gates::turns(lo, e)
 }
 
-// Copies that are not apart are nearly always on a level: their boxes are small beside the cell.
+// Copies that are not apart are nearly always on a level on all axes, as their boxes are small beside the cell; of a copy whose atoms were wrapped one by one
+// the box may be as wide as the cell on some.
 pub fn level_of(e: Vec3, b: Span, c: Span) -> Level
     ensures { λ r. ⌜ r ≡ levelOf e b c ⌝ }
 {
     Level {
-        sure: level_axis(e.x, c.low.x - b.high.x, c.high.x - b.low.x)
-            & (level_axis(e.y, c.low.y - b.high.y, c.high.y - b.low.y)
-                & level_axis(e.z, c.low.z - b.high.z, c.high.z - b.low.z)),
+        x: level_axis(e.x, c.low.x - b.high.x, c.high.x - b.low.x),
+        y: level_axis(e.y, c.low.y - b.high.y, c.high.y - b.low.y),
+        z: level_axis(e.z, c.low.z - b.high.z, c.high.z - b.low.z),
         by: Vec3 {
             x: e.x * gates::turns(c.low.x - b.high.x, e.x),
             y: e.y * gates::turns(c.low.y - b.high.y, e.y),
@@ -133,30 +121,27 @@ pub fn level_of(e: Vec3, b: Span, c: Span) -> Level
     }
 }
 
-fn clear_by(cutoff: f32, by: f32, lo: f32, hi: f32) -> bool
-    ensures { λ r. ⌜ r ≡ clearBy cutoff by lo hi ⌝ }
+fn clear_by(level: bool, cutoff: f32, by: f32, lo: f32, hi: f32) -> bool
+    ensures { λ r. ⌜ r ≡ clearBy level cutoff by lo hi ⌝ }
 {
     let gap = numbers::order::larger(lo - by, -(hi - by));
-    (0.0 < gap) & (cutoff * cutoff < gap * gap)
+    level & ((0.0 < gap) & (cutoff * cutoff < gap * gap))
 }
 
-// Whether the point is far from the whole box.
-fn passed_over(cutoff: f32, e: Vec3, level: Level, p: Vec3, c: Span) -> bool
-    ensures { λ r. ⌜ r ≡ passedOver cutoff e level p c ⌝ }
+// Whether the point is far from the whole box, on an axis of the level.
+fn passed_over(cutoff: f32, level: Level, p: Vec3, c: Span) -> bool
+    ensures { λ r. ⌜ r ≡ passedOver cutoff level p c ⌝ }
 {
-    if level.sure {
-        return clear_by(cutoff, level.by.x, c.low.x - p.x, c.high.x - p.x)
-            | (clear_by(cutoff, level.by.y, c.low.y - p.y, c.high.y - p.y)
-                | clear_by(cutoff, level.by.z, c.low.z - p.z, c.high.z - p.z));
-    }
-    apart_images(cutoff, e, point_span(p), c)
+    clear_by(level.x, cutoff, level.by.x, c.low.x - p.x, c.high.x - p.x)
+        | (clear_by(level.y, cutoff, level.by.y, c.low.y - p.y, c.high.y - p.y)
+            | clear_by(level.z, cutoff, level.by.z, c.low.z - p.z, c.high.z - p.z))
 }
 
 // Whether two points are at most the cutoff apart. On a level there is no division, and no branch turns on a separation.
 fn near_on(cutoff: f32, e: Vec3, level: Level, p: Vec3, q: Vec3) -> bool
     ensures { λ r. ⌜ r ≡ nearOn cutoff e level p q ⌝ }
 {
-    if level.sure {
+    if level.x & (level.y & level.z) {
         let by = level.by;
         return cell::magnitude_squared(cell::separation(by, cell::separation(p, q)))
             <= cutoff * cutoff;
@@ -167,10 +152,10 @@ fn near_on(cutoff: f32, e: Vec3, level: Level, p: Vec3, q: Vec3) -> bool
 // ---- two copies
 
 // Where the search of a list starts: at its end, where the point is far from the list's box.
-fn begin(cutoff: f32, e: Vec3, level: Level, p: Vec3, c: Span, end: usize) -> usize
-    ensures { λ r. ⌜ r ≡ cond (passedOver cutoff e level p c) end 0 ⌝ }
+fn begin(cutoff: f32, level: Level, p: Vec3, c: Span, end: usize) -> usize
+    ensures { λ r. ⌜ r ≡ cond (passedOver cutoff level p c) end 0 ⌝ }
 {
-    if passed_over(cutoff, e, level, p, c) {
+    if passed_over(cutoff, level, p, c) {
         return end;
     }
     0
@@ -196,7 +181,7 @@ pub fn lists_touch(
     let mut i = 0;
     'pairs: while i < a.len() {
         let p = cell::point(xs, base::wide(a[i]));
-        let mut j = begin(cutoff, e, level, p, c, b.len());
+        let mut j = begin(cutoff, level, p, c, b.len());
         while j < b.len() {
             if near_on(cutoff, e, level, p, cell::point(xs, base::wide(b[j]))) {
                 found = true;

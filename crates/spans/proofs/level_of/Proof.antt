@@ -1,6 +1,6 @@
 -- `spans::level_of` meets its contract: the ends of each axis. Assumes nothing.
 use mathlib.Core.Path.{_≡_}
-use mathlib.Core.Bool.{Bool, _&&_}
+use mathlib.Core.Bool.{Bool}
 use lib.Ieee.{Float, binary32, mul}
 use Rattle.cell.specs.declared.Vec3.{Vec3}
 use Rattle.spans.specs.declared.Level.{Level}
@@ -21,8 +21,8 @@ on-x c = c .before .before .before .before .before
 
 -- part by part
 same : (e : Vec3) {a a′ b b′ c c′ : Bool} {x x′ y y′ z z′ : Float} → a ≡ a′ → b ≡ b′ → c ≡ c′ → x ≡ x′ → y ≡ y′ → z ≡ z′
-    → _≡_ {A = Level} (record { sure = a && (b && c); by = record { x = mul binary32 (e .x) x; y = mul binary32 (e .y) y; z = mul binary32 (e .z) z } })
-    (record { sure = a′ && (b′ && c′); by = record { x = mul binary32 (e .x) x′; y = mul binary32 (e .y) y′; z = mul binary32 (e .z) z′ } })
+    → _≡_ {A = Level} (record { x = a; y = b; z = c; by = record { x = mul binary32 (e .x) x; y = mul binary32 (e .y) y; z = mul binary32 (e .z) z } })
+    (record { x = a′; y = b′; z = c′; by = record { x = mul binary32 (e .x) x′; y = mul binary32 (e .y) y′; z = mul binary32 (e .z) z′ } })
 same e p q r s t u = rw (p, q, r, s, t, u)
 
 returns : tie.Need-returns
