@@ -1,14 +1,14 @@
 -- Boxes around the picks of a copy, when two boxes are kept apart, and when all separations from one to the other take off the same number of extents. Lengths are in angstrom.
 -- Definitions only. Assumes nothing.
 use mathlib.Core.Path.{_≡_}
-use mathlib.Core.Bool.{Bool, true, _&&_, _||_, cond}
+use mathlib.Core.Bool.{Bool, true, not, _&&_, _||_, cond}
 use mathlib.Core.List.{List, [], _∷_}
 use Prim.Native.Nat.{ℕ, zero, suc, _+_, _*_, _<_}
 use lib.ListN.{length, getD, take, drop}
 use lib.Ieee.{Float, nan, binary32, neg, sub, mul, lt, le}
 use Rattle.floats.specs.Constants.{zero32}
 use Rattle.cell.specs.declared.Vec3.{Vec3}
-use Rattle.cell.specs.Cell.{squared, minus, distance2, pointAt, finitePoint}
+use Rattle.cell.specs.Cell.{imageAxis, squared, minus, distance2, pointAt, finitePoint}
 use Rattle.pick_lists.specs.Sound.{pickList}
 use Rattle.gates.specs.declared.Gates.{Gates}
 use Rattle.gates.specs.declared.Screen.{Screen}
@@ -116,9 +116,21 @@ unfoldable pub passedOver : Float → Level → Vec3 → Span → Bool
 unfolding clearBy
 passedOver k l p c = apartBy (clearBy (l .x) k (l .by .x)) (clearBy (l .y) k (l .by .y)) (clearBy (l .z) k (l .by .z)) (pointSpan p) c
 
--- points p and q are at most the cutoff apart: by the level, where the boxes are on one on all axes, or by the minimum image
+-- the image of d is over the cutoff k on an axis of extent e
+unfoldable pub overAxis : Float → Float → Float → Bool
+overAxis k d e = lt (cutoff2 k) (mul binary32 (imageAxis d e) (imageAxis d e))
+
+-- points p and q are at most the cutoff apart, an axis at a time
+unfoldable pub nearBy : Float → Vec3 → Vec3 → Vec3 → Bool
+unfolding overAxis
+nearBy k e p q =
+    let d = minus q p in
+    not (overAxis k (d .x) (e .x)) && (not (overAxis k (d .y) (e .y)) && (not (overAxis k (d .z) (e .z)) && le (distance2 e p q) (cutoff2 k)))
+
+-- by the level, where the boxes are on one on all axes, or by the minimum image
 unfoldable pub nearOn : Float → Vec3 → Level → Vec3 → Vec3 → Bool
-nearOn k e l p q = cond (l .x && (l .y && l .z)) (le (squared (minus (minus q p) (l .by))) (cutoff2 k)) (le (distance2 e p q) (cutoff2 k))
+unfolding nearBy
+nearOn k e l p q = cond (l .x && (l .y && l .z)) (le (squared (minus (minus q p) (l .by))) (cutoff2 k)) (nearBy k e p q)
 
 -- the first number from j on that fails a test, or the one after the k numbers from j on
 unfoldable pub firstPast : (ℕ → Bool) → ℕ → ℕ → ℕ

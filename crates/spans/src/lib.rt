@@ -13,7 +13,7 @@ ghost use Rattle.pick_lists.specs.Sound.{soundLists, copies, pickList};
 ghost use Rattle.pick_lists.specs.Input.{given};
 ghost use Rattle.touch.specs.Touch.{near as nearOf, anyPair, copiesTouch};
 ghost use Rattle.gates.specs.Inner.{tested};
-ghost use Rattle.spans.specs.Inner.{coordinate as coordinateOf, leastOf, greatestOf, spanOf, apartOf, apartTurns, outsideOf, levelAxis, levelOf, clearBy, passedOver, nearOn, apartScreen, apartFrom, firstPast, partOf, FinitePicks};
+ghost use Rattle.spans.specs.Inner.{coordinate as coordinateOf, leastOf, greatestOf, spanOf, apartOf, apartTurns, outsideOf, levelAxis, levelOf, clearBy, passedOver, overAxis, nearBy, nearOn, apartScreen, apartFrom, firstPast, partOf, FinitePicks};
 use cell::Cell;
 use cell::Vec3;
 use gates::Gates;
@@ -137,6 +137,31 @@ fn passed_over(cutoff: f32, level: Level, p: Vec3, c: Span) -> bool
             | clear_by(level.z, cutoff, level.by.z, c.low.z - p.z, c.high.z - p.z))
 }
 
+// Whether the image of d is over the cutoff on an axis of extent e.
+fn over_axis(cutoff: f32, d: f32, e: f32) -> bool
+    ensures { λ r. ⌜ r ≡ overAxis cutoff d e ⌝ }
+{
+    let a = cell::image_axis(d, e);
+    cutoff * cutoff < a * a
+}
+
+// Whether two points are at most the cutoff apart, wherever they are. Most pairs are settled by their first axis.
+fn near_by(cutoff: f32, e: Vec3, p: Vec3, q: Vec3) -> bool
+    ensures { λ r. ⌜ r ≡ nearBy cutoff e p q ⌝ }
+{
+    let d = cell::separation(p, q);
+    if over_axis(cutoff, d.x, e.x) {
+        return false;
+    }
+    if over_axis(cutoff, d.y, e.y) {
+        return false;
+    }
+    if over_axis(cutoff, d.z, e.z) {
+        return false;
+    }
+    cell::distance_squared(e, p, q) <= cutoff * cutoff
+}
+
 // Whether two points are at most the cutoff apart. On a level there is no division, and no branch turns on a separation.
 fn near_on(cutoff: f32, e: Vec3, level: Level, p: Vec3, q: Vec3) -> bool
     ensures { λ r. ⌜ r ≡ nearOn cutoff e level p q ⌝ }
@@ -146,7 +171,7 @@ fn near_on(cutoff: f32, e: Vec3, level: Level, p: Vec3, q: Vec3) -> bool
         return cell::magnitude_squared(cell::separation(by, cell::separation(p, q)))
             <= cutoff * cutoff;
     }
-    cell::distance_squared(e, p, q) <= cutoff * cutoff
+    near_by(cutoff, e, p, q)
 }
 
 // ---- two copies

@@ -11,7 +11,7 @@ returns c = rw (c .before .before .before .before .if1 .taken, c .magnitude-squa
 
 returns-2 : tie.Need-returns-2
 unfolding nearOn cutoff2
-returns-2 c = rw (c .before .if1 .left, c .distance-squared .ensures)
+returns-2 c = rw (c .before .if1 .left, c .near-by .ensures)
 
 pub near-on-spec : {M : Type 1} → statement M
 near-on-spec =
