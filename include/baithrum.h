@@ -30,7 +30,7 @@
  *   another, and fesetround sets one: answers may change then. Where invalid or inexact is trapped, a call may end in SIGFPE. A call leaves the
  *   state as it is, but for flags, which ordinary frames set. _mm_setcsr(0x1F80) before a call mends all of these.
  * - The stack has room, beside the lent tables. The least on which a call answers, measured (measure/run stack), in bytes: Select, Open and
- *   Centers under 500 (where the call is the first to bind memcpy or memset lazily, 3,400), Row 9,280, Close 24,736, Dispersion 50,160,
+ *   Centers under 500 (where the call is the first to bind memcpy or memset lazily, 3,400), Row 8,896, Close 24,736, Dispersion 50,320,
  *   Tree 1,176,080, Report 1,176,944, the whole frame 1,292,720.
  */
 #ifndef BAITHRUM_H
@@ -44,10 +44,10 @@
 extern "C" {
 #endif
 
-/* The version of this header, 0.2.2: 10,000 times the first part, 100 times the second, and the third. The third grows where a caller sees
+/* The version of this header, 0.2.1: 10,000 times the first part, 100 times the second, and the third. The third grows where a caller sees
  * no change, the second with every addition, the first where a name, a number or a meaning changes; while the first is 0, that may come
  * with the second. The archive does not carry it: take both from one tree. */
-#define BAITHRUM_VERSION 202
+#define BAITHRUM_VERSION 201
 
 /* What a call results in. A number keeps its meaning in every call. */
 enum {

@@ -86,10 +86,6 @@ static void frames(void) {
     line("at random, moved by up to 1 cell");
     at_random(125, 20);
     line("at random, moved by up to 20 cells");
-    at_random(53, 0);
-    line("at random");
-    wrap_atoms();
-    line("at random, broken by the cell's faces");
     crowd(COPIES, 16);
     line("near and not touching");
     crowd(4, 16384);

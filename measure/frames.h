@@ -213,14 +213,6 @@ static inline void scatter_images(int most) {
     }
 }
 
-/* Each atom of copies in the cell put back into the cell by itself, so that molecules at its faces are broken. */
-static inline void wrap_atoms(void) {
-    for (size_t i = 0; i < 3 * t.s; i++) {
-        float side = t.cell[3 + i % 3];
-        t.solutes[i] += t.solutes[i] < 0 ? side : t.solutes[i] >= side ? -side : 0;
-    }
-}
-
 /* ---- cluster tables */
 
 /* Parents: each its own; all under copy 0; i under i - 1; i under i + 1; a ring. */

@@ -6,8 +6,8 @@
 // A program uses what it needs.
 #![allow(dead_code)]
 
-/// The version of include/baithrum.h that this follows, 0.2.2.
-pub const VERSION: u32 = 202;
+/// The version of include/baithrum.h that this follows, 0.2.1.
+pub const VERSION: u32 = 201;
 
 // What a call results in. A number keeps its meaning in every call.
 pub const DONE: u32 = 0;

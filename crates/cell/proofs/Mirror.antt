@@ -5,6 +5,7 @@
 use mathlib.Core.Path.{◌≡◌, refl, sym, ap, ap₂, ◌∙◌, subst}
 use mathlib.Core.Logic.{inl, inr}
 use mathlib.Core.Bool.{true, false, not}
+use lib.IntN.{pos}
 use lib.Dec.{T}
 use lib.Ieee.{Float, nan, inf, fin, binary32, unlike, neg, add, sub, mul, div, eq, fits, is_nan}
 use lib.Ieee.Bits.{is_true}
@@ -14,7 +15,8 @@ use Rattle.floats.proofs.Signs.{neg-finite}
 use Rattle.floats.proofs.Operations.{Nonzero, div-number, mul-number, sub_number}
 use Rattle.floats.proofs.Negation.{mul-neg-right, div-neg-left, round_of-neg, Turned, sub-neg, sub-swap, turned-number, turned-square}
 use Rattle.floats.proofs.ExactResults.{over_none, times_none, less_none}
-use Rattle.floats.proofs.WholeSizes.{round_size, round-rounds, zero32, whole-stays, rounds-number}
+use Rattle.floats.proofs.WholeSizes.{round_size, round-rounds, nothing-stays, rounds-number}
+use Rattle.floats.proofs.SizeTests.{zero32}
 use Rattle.cell.specs.declared.Vec3.{Vec3}
 use Rattle.cell.specs.Cell.{image_axis, valid_axis, min_image, squared, minus, distance2}
 use Rattle.cell.proofs.Finite.{valid-above, nonzero}
@@ -63,7 +65,7 @@ image-none (fin t n d) h =
     let u = unlike false t in
     ap (λ (q : Float). sub binary32 zero32 (mul binary32 (fin t n d) (round_of binary32 q))) (over_none binary32 false t n d h)
     ∙ ap (λ (q : Float). sub binary32 zero32 (mul binary32 (fin t n d) q))
-    (sym (whole-stays binary32 round_size (round_of binary32) (round-rounds binary32) u 0 0 (unfold fits in tt)))
+    (sym (nothing-stays binary32 round_size (round_of binary32) (round-rounds binary32) (fin u 0 (pos 0)) (unfold fits in tt) (refl, refl)))
     ∙ ap (sub binary32 zero32) (times_none binary32 t n d u) ∙ less_none binary32 (unlike t u)
 
 -- ---- one axis of a valid cell: images are numbers

@@ -3,9 +3,8 @@
 #![tactic(auto)]
 ghost use Rattle.std.specs.Prelude.{◌≡◌, true, cond, ◌+◌, ◌*◌, ◌<◌, length};
 ghost use Rattle.std.specs.Float.{binary32};
-ghost use Rattle.std.specs.Float.Ieee.{of_bits, sub, mul, div};
-ghost use Rattle.floats.specs.Whole.{floor_of};
-ghost use Rattle.cell.specs.Cell.{image_axis, valid_axis, extent_of, valid, wrap as wrap_of, min_image, squared, minus, distance2, volume_of, point_at, finite_point};
+ghost use Rattle.std.specs.Float.Ieee.{of_bits};
+ghost use Rattle.cell.specs.Cell.{wrap_axis, image_axis, valid_axis, extent_of, valid, wrap as wrap_of, min_image, squared, minus, distance2, volume_of, point_at, finite_point};
 ghost use Rattle.cell.specs.Reach.{sound_reach};
 ghost use Rattle.cell.specs.Inner.{within_axis, within_all};
 
@@ -53,32 +52,11 @@ pub fn is_valid(cell: Cell) -> bool
     valid_axis(e.x) & (valid_axis(e.y) & valid_axis(e.z))
 }
 
-// How many extents a coordinate is above the low bound.
-fn extents_axis(p: f32, low: f32, e: f32) -> f32
-    ensures { result ≡ div binary32 (sub binary32 p low) e }
+// One axis of wrap: the coordinate moved by whole extents into the cell, but for rounding.
+fn wrap_axis(p: f32, low: f32, e: f32) -> f32
+    ensures { result ≡ wrap_axis p low e }
 {
-    (p - low) / e
-}
-
-// Whether a coordinate q extents above the low bound is in the cell, so that floor q is a zero with q's sign.
-fn inside_axis(q: f32) -> bool
-    ensures { result ≡ true → mul binary32 q (of_bits binary32 0) ≡ floor_of binary32 q }
-{
-    (0.0 <= q) & (q < 1.0)
-}
-
-// One axis of wrap for a coordinate in the cell: q * 0.0 is floor q.
-fn keep_axis(p: f32, q: f32, e: f32) -> f32
-    ensures { result ≡ sub binary32 p (mul binary32 e (mul binary32 q (of_bits binary32 0))) }
-{
-    p - e * (q * 0.0)
-}
-
-// One axis of wrap: a coordinate q extents above the low bound, moved by whole extents into the cell, but for rounding.
-fn wrap_axis(p: f32, q: f32, e: f32) -> f32
-    ensures { result ≡ sub binary32 p (mul binary32 e (floor_of binary32 q)) }
-{
-    p - e * numbers::whole::floor32(q)
+    p - e * numbers::whole::floor32((p - low) / e)
 }
 
 // A number that was found without a division, and whether it is sure to be the one asked for; if not, it says nothing.
@@ -119,26 +97,15 @@ pub fn image_axis(d: f32, e: f32) -> f32
     d - e * numbers::whole::round32(d / e)
 }
 
-// The point moved into the cell. One test for all axes: where points lie in the cell it is guessed right and spares the floors, and where they lie
-// outside, on some axis, no branch of the floors turns on sign or fraction.
+// The point moved into the cell.
 pub fn wrap(cell: Cell, p: Vec3) -> Vec3
     ensures { result ≡ wrap_of cell p }
 {
     let e = extent(cell);
-    let x = extents_axis(p.x, cell.low.x, e.x);
-    let y = extents_axis(p.y, cell.low.y, e.y);
-    let z = extents_axis(p.z, cell.low.z, e.z);
-    if inside_axis(x) & (inside_axis(y) & inside_axis(z)) {
-        return Vec3 {
-            x: keep_axis(p.x, x, e.x),
-            y: keep_axis(p.y, y, e.y),
-            z: keep_axis(p.z, z, e.z),
-        };
-    }
     Vec3 {
-        x: wrap_axis(p.x, x, e.x),
-        y: wrap_axis(p.y, y, e.y),
-        z: wrap_axis(p.z, z, e.z),
+        x: wrap_axis(p.x, cell.low.x, e.x),
+        y: wrap_axis(p.y, cell.low.y, e.y),
+        z: wrap_axis(p.z, cell.low.z, e.z),
     }
 }
 

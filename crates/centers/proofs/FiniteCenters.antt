@@ -18,7 +18,7 @@ use lib.Ieee.Scale.{finite}
 use Rattle.base.specs.Limits.{max_picks}
 use Rattle.floats.proofs.Bounds.{Within, Exact, add-within, within_more}
 use Rattle.floats.proofs.Quotients.{AtLeast, div-within}
-use Rattle.floats.proofs.Operations.{of_int_is}
+use Rattle.floats.proofs.SizeTests.{of_int_is}
 use Rattle.cell.specs.declared.Vec3.{Vec3}
 use Rattle.cell.specs.declared.Cell.{Cell}
 use Rattle.cell.specs.Cell.{extent_of, wrap, min_image, minus, distance2, point_at, finite_point}

@@ -13,7 +13,6 @@ ghost use Rattle.clusters.specs.Answers.{row_table, open_answer, open_after, row
 use base::{Answer, MAX_COPIES};
 use cell::Cell;
 use cluster_table::HEADER;
-use span_table::BLOCK;
 
 // What Close answers: the largest, contacted and pair fractions.
 #[derive(Drop)]
@@ -45,7 +44,7 @@ pub fn open(table: &mut [u32], n: usize, cutoff: f32) -> Answer
 // ---- Row
 
 // Row i of input that nothing refuses on a sound table: what Row's tests establish is asked, and nothing is tested again. The box of copy i settles
-// most copies, a block at a time (crate `span_table`).
+// most copies (crate `spans`).
 pub fn scan_row(
     cell: Cell,
     cutoff: f32,
@@ -61,35 +60,19 @@ pub fn scan_row(
 {
     let n = starts.len() - 1;
     let e = cell::extent(cell);
-    let g = gates::screen_of(cell, cutoff);
-    let b = spans::copy_span(solutes, starts, picks, i);
+    let g = gates::screen_of(cell, cutoff, false);
+    let s = spans::copy_span(solutes, starts, picks, i);
     // Gates are quicker, and say nothing of copies that stand over an extent apart: from the first of those on, images decide.
     let mut wide = false;
     // Copies up to i had their own rows for this pair.
-    let mut first = i + 1;
-    while first < n {
-        let mut end = base::min(first + BLOCK, n);
-        // Gates are as quick an axis at a time; images of single picks are not.
-        let s = gates::adapted(
-            g,
-            wide,
-            wide & (span_table::single(starts, i, i + 1) & span_table::single(starts, first, end)),
-        );
-        let mut flags = [0u32; BLOCK];
-        span_table::mark_block(s, solutes, starts, picks, b, first, end - first, &mut flags);
-        let mut j = span_table::next_close(&flags, first, first, end);
-        while j < end {
-            let c = spans::copy_span(solutes, starts, picks, j);
-            if spans::copies_touch(cell, cutoff, solutes, starts, picks, b, c, i, j) {
-                cluster_table::add_contact(table, n, i, j);
-            }
-            if !wide & spans::outside(e, b, c) {
-                wide = true;
-                end = j + 1;
-            }
-            j = span_table::next_close(&flags, first, j + 1, end);
+    let mut j = spans::next_close(g, solutes, starts, picks, s, i + 1);
+    while j < n {
+        let c = spans::copy_span(solutes, starts, picks, j);
+        if spans::copies_touch(cell, cutoff, solutes, starts, picks, s, c, i, j) {
+            cluster_table::add_contact(table, n, i, j);
         }
-        first = end;
+        wide = wide | spans::outside(e, s, c);
+        j = spans::next_close(gates::widened(g, wide), solutes, starts, picks, s, j + 1);
     }
     cluster_table::set_mark(table, n, i);
 }

@@ -3,7 +3,7 @@
 use mathlib.Core.Path.{◌≡◌, sym, ap, ◌∙◌}
 use mathlib.Core.Logic.{inl, inr}
 use Prim.Native.Nat.{ℕ, suc, ◌+◌, ◌*◌, ◌/◌, ◌%◌, ◌≤◌, ◌<◌}
-use native.Mathlib.Nat.{le_trans, le_antisymm, le_of_eq, zero-lt-suc, eq-or-lt_of_le, suc-mul, mul_comm, mul-pos, mul-le-mul_right, lt_of_mul-lt-mul_right, div-eq_of_lt, div-add-mod', lt-div-mul-add, div-le_of_le-mul, div-lt_iff_lt-mul, le-div_iff_mul-le, mul-mod_left}
+use native.Mathlib.Nat.{le_trans, le_antisymm, le_of_eq, lt_of_lt_of_le, zero-lt-suc, eq-or-lt_of_le, suc-mul, mul_comm, mul-pos, mul-le-mul_right, le_of_mul-le-mul_right, lt_of_mul-lt-mul_right, div-eq_of_lt, div-add-mod', div-mul-le_self, lt-div-mul-add, div-le_of_le-mul, div-lt_iff_lt-mul, le-div_iff_mul-le, mul-mod_left}
 use native.Mathlib.Omega.{arith}
 use mathlib.Core.Bool.{Bool, true, false, cond}
 use lib.Dec.{T, eqb, eqb→eq}
@@ -14,9 +14,6 @@ use Rattle.floats.specs.Whole.{ceiling, half_up}
 -- ---- multiples of c: two of them are the same, or c apart
 pub step : (j k c : ℕ) → j < k → j * c + c ≤ k * c
 step j k c h = le_trans (le_of_eq (sym (suc-mul j c))) (mul-le-mul_right c h)
-
-suc-le : (x y : ℕ) → x < suc y → x ≤ y
-suc-le x y l = omega arith
 
 -- ---- down
 pub part-le : (a c k : ℕ) → a ≤ k * c → a / c ≤ k
@@ -49,9 +46,14 @@ ceiling-one a =
     let l : a ≤ ceiling a 1 * 1 = ceiling-ge a 1 (zero-lt-suc 0) in
     omega arith
 
--- it is the whole number less than one above a / c
-pub ceiling-is : (a c n : ℕ) → 0 < c → n * c < a + c → a ≤ n * c → ceiling a c ≡ n
-ceiling-is a c n C l h = le_antisymm (ceiling-le a c n C h) (suc-le n (ceiling a c) (lt_of_mul-lt-mul_right c (omega (arith, ceiling-ge a c C))))
+-- the whole part, where nothing is left over, and else the next number up
+pub ceiling-same : (a c : ℕ) → 0 < c → a ≤ a / c * c → ceiling a c ≡ a / c
+ceiling-same a c C h = le_antisymm (ceiling-le a c (a / c) C h) (le_of_mul-le-mul_right (le_trans (div-mul-le_self a c) (ceiling-ge a c C)) C)
+
+pub ceiling-next : (a c : ℕ) → 0 < c → a / c * c < a → ceiling a c ≡ suc (a / c)
+ceiling-next a c C h =
+    let l : a < a / c * c + c = lt-div-mul-add C in
+    le_antisymm (ceiling-le a c (suc (a / c)) C (omega arith)) (lt_of_mul-lt-mul_right c (lt_of_lt_of_le h (ceiling-ge a c C)))
 
 -- ---- to the nearest
 two_pos : (c : ℕ) → 0 < c → 0 < 2 * c
@@ -59,6 +61,9 @@ two_pos c C = mul-pos (zero-lt-suc 1) C
 
 pub half_le : (a c k : ℕ) → 0 < c → a ≤ k * c → half_up a c ≤ k
 half_le a c k C h = suc-le (half_up a c) k ((div-lt_iff_lt-mul (two_pos c C)).1 (omega arith))
+  where
+    suc-le : (x y : ℕ) → x < suc y → x ≤ y
+    suc-le x y l = omega arith
 
 pub half-one : (a : ℕ) → half_up a 1 ≡ a
 half-one a = omega arith

@@ -42,6 +42,8 @@ pub mod Bounds
 -- and through quotients
 pub mod Quotients
 -- ---- floor and round
+-- what the code's tests say of a value's size
+pub mod SizeTests
 -- floor and round as one thing: what holds of both
 pub mod WholeSizes
 -- the floor is the largest whole number not above, and keeps the order
@@ -54,12 +56,12 @@ pub mod NextWhole
 pub mod Image
 -- y * round (x / y) taken from an x below y in size, without the division
 pub mod Folding
+-- the arms of `floor_any32` and `floor32`
+pub mod FloorArms
 -- a sum that has no room for a fraction
 pub mod WholeSum
 -- the arms of `round32`: rounding by such a sum
 pub mod WholeBySum
--- `floor32`, the floor by that; and from 0 up to 1, a zero
-pub mod FloorByRound
 -- ---- bit patterns
 -- which patterns are NaNs
 pub mod Patterns

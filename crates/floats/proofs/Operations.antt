@@ -5,9 +5,9 @@ use Prim.Native.Nat.{ℕ, ◌+◌, ◌-◌, ◌*◌, ◌≤◌, ◌<◌}
 use native.Mathlib.Nat.{le_of_eq, not-le_of_lt, zero-lt-suc, add_comm, mul_comm, mul-pos}
 use native.Mathlib.Omega.{arith}
 use mathlib.Core.Bool.{Bool, true, false, not, cond}
-use lib.IntN.{ℤ, pos}
+use lib.IntN.{ℤ}
 use lib.Dec.{T, ltb, eqb, ltb→lt, nltb→le, eqb→eq, not_T}
-use lib.Ieee.{Float, nan, inf, fin, Format, unlike, up, down, round, neg, sum, add, sub, mul, div, of_int, fits, is_nan}
+use lib.Ieee.{Float, nan, inf, fin, Format, unlike, up, down, round, neg, sum, add, sub, mul, div, fits, is_nan}
 use lib.Ieee.Fits.{down_pos}
 use lib.Ieee.Bits.{cond_no}
 use lib.Ieee.Exact.{HasValue}
@@ -191,11 +191,6 @@ pub own-rounded : (f : Format) (w : Float) → T (fits f w) → T (finite w) →
 own-rounded f nan p q = absurd q
 own-rounded f (inf s) p q = absurd q
 own-rounded f (fin s m e) p q = record { s = s; k = m * up e; is = sym (own-round f s m e p); val = add_comm (gain s (m * up e)) (loss s (m * up e)) }
-
--- ---- and a whole number is converted by rounding
-pub of_int_is : (f : Format) (n : ℕ) → of_int f (pos n) ≡ round f false n 1
-unfolding of_int
-of_int_is f n = refl
 
 -- ---- no NaN: of a finite value and one that is no NaN
 pub div-number : (f : Format) (x y : Float) → T (finite x) → Nonzero y → T (not (is_nan (div f x y)))

@@ -203,33 +203,23 @@ plain-neg-le (fin false m e) (inf false) p q = tt
 plain-neg-le (fin false m e) (fin true n d) p q = absurd q
 plain-neg-le (fin false m e) (fin false n d) p q = to-test true (m * up e * down d) false (n * up d * down e) zero-le
 
--- ---- the order of values, by any fractions that they are
-same : (s : Bool) (a c : ℕ) (t : Bool) (b d : ℕ) → s ≡ t → a * d ≡ b * c → Below s a c t b d
-same false a c false b d e k = omega arith
-same false a c true b d e k = absurd (true≢false (sym e))
-same true a c false b d e k = absurd (true≢false e)
-same true a c true b d e k = omega arith
-
-module _ (x y : Float) (s : Bool) (a c : ℕ) (t : Bool) (b d : ℕ) (C : 0 < c) (D : 0 < d) (v : HasValue x s a c) (w : HasValue y t b d) where
-  pub value-le : Below s a c t b d → T (le x y)
-  value-le h =
-      let p = value-parts x s a c v in
-      let q = value-parts y t b d w in
-      Le→le x y (value-finite x s a c v) (value-finite y t b d w)
-      (Le-trans (G x) (L x) (den x) (gain s a) (loss s a) c (G y) (L y) (den y) C
-      (same (sign x) (num x) (den x) s a c p.0 p.1)
-      (Le-trans (gain s a) (loss s a) c (gain t b) (loss t b) d (G y) (L y) (den y) D h (same t b d (sign y) (num y) (den y) (sym q.0) (sym q.1))))
-
-  pub le-value : T (le x y) → Below s a c t b d
-  le-value h =
-      let p = value-parts x s a c v in
-      let q = value-parts y t b d w in
-      Le-trans (gain s a) (loss s a) c (G x) (L x) (den x) (gain t b) (loss t b) d (den_pos x)
-      (same s a c (sign x) (num x) (den x) (sym p.0) (sym p.1))
-      (Le-trans (G x) (L x) (den x) (G y) (L y) (den y) (gain t b) (loss t b) d (den_pos y)
-      (le→Le x y (value-finite x s a c v) (value-finite y t b d w) h) (same (sign y) (num y) (den y) t b d q.0 q.1))
-
 -- ---- rounding keeps the order
+pub value-le : (x y : Float) (s : Bool) (a c : ℕ) (t : Bool) (b d : ℕ) → 0 < c → 0 < d → HasValue x s a c → HasValue y t b d → Below s a c t b d
+    → T (le x y)
+value-le x y s a c t b d C D v w h =
+    let p = value-parts x s a c v in
+    let q = value-parts y t b d w in
+    Le→le x y (value-finite x s a c v) (value-finite y t b d w)
+    (Le-trans (G x) (L x) (den x) (gain s a) (loss s a) c (G y) (L y) (den y) C
+    (same (sign x) (num x) (den x) s a c p.0 p.1)
+    (Le-trans (gain s a) (loss s a) c (gain t b) (loss t b) d (G y) (L y) (den y) D h (same t b d (sign y) (num y) (den y) (sym q.0) (sym q.1))))
+  where
+    same : (u : Bool) (x dx : ℕ) (s : Bool) (y dy : ℕ) → u ≡ s → x * dy ≡ y * dx → gain u x * dy + loss s y * dx ≤ gain s y * dx + loss u x * dy
+    same false x dx false y dy e k = omega arith
+    same false x dx true y dy e k = absurd (true≢false (sym e))
+    same true x dx false y dy e k = absurd (true≢false e)
+    same true x dx true y dy e k = omega arith
+
 round-zero : (f : Format) (s : Bool) (c : ℕ) → 0 < c → HasValue (round f s 0 c) s 0 c
 round-zero f s c C = round_exact f s 0 c 0 0 C (pow_pos (prec f)) (pow_pos (low f + suc (emax f))) (zero-mul (2 ^ low f) ∙ sym (zero-mul c))
 

@@ -1,7 +1,7 @@
 -- The sign of a float: what has no minus sign (`plain`), that rounding knows the sign only to set it, and what a value says of its sign. Assumes nothing.
 use mathlib.Core.Path.{◌≡◌, refl, sym, ap, ◌∙◌, subst}
 use Prim.Native.Nat.{ℕ, zero, suc, ◌+◌, ◌*◌, ◌^◌}
-use mathlib.Core.Bool.{Bool, true, false, not, cond}
+use mathlib.Core.Bool.{Bool, true, false, not, cond, true≢false}
 use lib.Dec.{T, ltb}
 use lib.Ieee.{Float, nan, inf, fin, Format, prec, emax, low, unlike, odd, units, round, neg, is_nan}
 use lib.Ieee.Fits.{round_is}
@@ -100,6 +100,12 @@ pub value-parts : (x : Float) (s : Bool) (a c : ℕ) → HasValue x s a c → (s
 value-parts nan s a c v = absurd v
 value-parts (inf t) s a c v = absurd v
 value-parts (fin t m e) s a c v = v
+
+pub value-unsigned : (x : Float) (a c : ℕ) → HasValue x false a c → T (unsigned x)
+value-unsigned nan a c v = absurd v
+value-unsigned (inf s) a c v = absurd v
+value-unsigned (fin true m e) a c v = absurd (true≢false v.0)
+value-unsigned (fin false m e) a c v = tt
 
 -- ---- from zero up, and above zero
 pub unsigned-finite : (x : Float) → T (unsigned x) → T (finite x)

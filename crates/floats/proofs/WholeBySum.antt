@@ -8,25 +8,27 @@ use native.Mathlib.Omega.{arith}
 use native.Mathlib.Decide.{dec_le}
 use mathlib.Core.Bool.{Bool, true, false, not, cond}
 use lib.IntN.{ℤ, pos, negsuc}
-use lib.Dec.{T, ltb→lt, nltb→le, T_not}
+use lib.Dec.{T, ltb→lt, nltb→le, not_T, T_not}
 use lib.Ieee.{Float, nan, inf, fin, Format, binary32, binary64, prec, low, hid, up, down, round, neg, sum, add, sub, mul, eq, lt, le, fits}
 use lib.Ieee.Fits.{up_pos, down_pos}
 use lib.Ieee.Exact.{HasValue, round_exact}
 use lib.Ieee.Back.{round_whole}
 use lib.Ieee.Nearest.{closest}
-use lib.Ieee.Order.{round_mono}
+use lib.Ieee.Order.{transfer, round_mono}
+use lib.Ieee.Positive.{num, den, den_pos}
 use borrow.Author.Tests.{lt-ltb}
 use Rattle.floats.specs.Order.{larger}
 use Rattle.floats.specs.Whole.{half_up, round_of}
 use Rattle.floats.proofs.Fractions.{half_le}
 use Rattle.floats.proofs.NearestClose.{Close, closest-close, half-next, half-same}
-use Rattle.floats.proofs.Signs.{neg-neg, neg-round}
+use Rattle.floats.proofs.Signs.{neg-neg, neg-round, value-finite, value-parts, value-unsigned}
 use Rattle.floats.proofs.Held.{hid-twice, low-halved, no_overflow}
 use Rattle.floats.proofs.SameValue.{own-round, none_is}
-use Rattle.floats.proofs.Signed.{le-value}
+use Rattle.floats.proofs.Signed.{lt_not_le, nlt→cross}
 use Rattle.floats.proofs.Magnitudes.{le-trans-all}
 use Rattle.floats.proofs.Operations.{add_at, sub-whole}
-use Rattle.floats.proofs.WholeSizes.{round_size, round-rounds, Large, zero32, large-stays, times_zero}
+use Rattle.floats.proofs.SizeTests.{zero32, Large}
+use Rattle.floats.proofs.WholeSizes.{round_size, round-rounds, large-stays, times_zero}
 use Rattle.floats.proofs.WholeSum.{closest-le, sum-le, sum-whole}
 
 -- ---- the code, on a size y: the nearest whole number, a tie to the even one, and then a tie that went down goes up
@@ -36,7 +38,7 @@ limit f = fin false 1 (pos (prec f - 1))
 abbrev half : Float
 half = fin false 1 (negsuc 0)
 
-abbrev pub unit : Bool → Float
+abbrev unit : Bool → Float
 unit t = cond t (fin false 1 (pos 0)) zero32
 
 abbrev pub to_even : Format → Float → Float
@@ -50,7 +52,10 @@ limit-value f = (refl, omega arith)
 
 -- what is at most a size, as fractions
 at_least : (z : Float) (b d : ℕ) (m : ℕ) (e : ℤ) → 0 < d → HasValue z false b d → T (le z (fin false m e)) → b * down e ≤ m * up e * d
-at_least z b d m e D v h = omega (arith, le-value z (fin false m e) false b d false (m * up e) (down e) D (down_pos e) v (refl, refl) h)
+at_least z b d m e D v h =
+    let y = fin false m e in
+    transfer b (m * up e) d (down e) (num z) (m * up e) (den z) (down e) (den_pos z) (down_pos e) (sym (value-parts z false b d v).1) refl
+    (nlt→cross y z tt (value-unsigned z b d v) (not_T (lt y z) (λ l. lt_not_le z y (value-finite z false b d v) tt l h)))
 
 module _ (f : Format) (m : ℕ) (e : ℤ) (F : T (fits f (fin false m e))) (small : m * up e < hid f * down e) where
   abbrev y : Float

@@ -8,18 +8,20 @@ use mathlib.Core.Bool.{Bool, true, false, not}
 use lib.IntN.{ℤ, pos, negsuc}
 use lib.Dec.{T}
 use lib.Pow.{pow_mono}
-use lib.Ieee.{Float, nan, inf, fin, Format, prec, up, down, round, mul, le, fits, is_nan}
+use lib.Ieee.{Float, nan, inf, fin, Format, prec, up, down, round, neg, mul, of_int, le, fits, is_nan}
 use lib.Ieee.Fits.{down_pos}
 use lib.Ieee.Exact.{HasValue}
 use lib.Ieee.Back.{round_whole}
 use lib.Ieee.Scale.{finite}
+use lib.Ieee.Positive.{num, den, positive}
 use Rattle.floats.specs.Whole.{ceiling, half_up, floor_of, round_of}
 use Rattle.floats.proofs.Fractions.{part-le, ceiling-le, ceiling-one, half_le, half-one}
-use Rattle.floats.proofs.Signs.{round_number, same_sign}
+use Rattle.floats.proofs.Signs.{neg-round, round_number, same_sign}
 use Rattle.floats.proofs.Held.{hid-twice, fits-digits}
 use Rattle.floats.proofs.SameValue.{own-round, round-none}
 use Rattle.floats.proofs.ExactResults.{times_none}
 use Rattle.floats.proofs.Signed.{Below, le→Le, round-le}
+use Rattle.floats.proofs.SizeTests.{zero32, of_int_is, Large, Nothing}
 
 -- the size of the floor of ±a / c, and of the nearest whole number
 abbrev pub floor_size : Bool → ℕ → ℕ → ℕ
@@ -57,12 +59,6 @@ pub round-rounds : (f : Format) → Rounds f round_size (round_of f)
 unfolding round_of
 round-rounds f = record { at-nan = refl; at-inf = λ s. refl; at-fin = λ s m e. refl; one = λ s a. half-one a; bounded = λ s a c k C h. half_le a c k C h }
 
--- 2 ^ k or more in size, or no number
-abbrev pub Large : ℕ → Float → Type 0
-Large k nan = Unit {0}
-Large k (inf s) = Unit {0}
-Large k (fin s m e) = 2 ^ k * down e ≤ m * up e
-
 -- from 2 ^ (prec - 1) on a value has no fraction
 big-whole : (f : Format) (s : Bool) (m k : ℕ) → T (fits f (fin s m (negsuc k))) → 2 ^ (prec f - 1) * 2 ^ suc k ≤ m * 1 → ⊥
 big-whole f s m k h g =
@@ -71,16 +67,13 @@ big-whole f s m k h g =
     let b : 2 ^ (prec f - 1) * 2 ^ 1 ≤ 2 ^ (prec f - 1) * 2 ^ suc k = mul-le-mul_left (2 ^ (prec f - 1)) (pow_mono {i = 1} {j = suc k} (zero-lt-suc k)) in
     omega arith
 
-abbrev pub zero32 : Float
-zero32 = fin false 0 (pos 0)
-
 -- a value times +0 is a zero with its sign
 pub times_zero : (f : Format) (s : Bool) (m : ℕ) (e : ℤ) → mul f (fin s m e) zero32 ≡ round f s 0 1
 times_zero f s m e = times_none f s m e false ∙ ap (λ (b : Bool). fin b 0 (pos 0)) (same_sign s) ∙ sym (round-none f s 1 (zero-lt-suc 0))
 
 module _ (f : Format) (σ : Bool → ℕ → ℕ → ℕ) (g : Float → Float) (r : Rounds f σ g) where
   -- ---- a whole number stays
-  pub whole-stays : (s : Bool) (m k : ℕ) → T (fits f (fin s m (pos k))) → fin s m (pos k) ≡ g (fin s m (pos k))
+  whole-stays : (s : Bool) (m k : ℕ) → T (fits f (fin s m (pos k))) → fin s m (pos k) ≡ g (fin s m (pos k))
   whole-stays s m k h = sym (r.at-fin s m (pos k) ∙ ap (λ (n : ℕ). round f s n 1) (r.one s (m * 2 ^ k)) ∙ own-round f s m (pos k) h)
 
   pub large-stays : (x : Float) → T (fits f x) → Large (prec f - 1) x → x ≡ g x
@@ -88,6 +81,11 @@ module _ (f : Format) (σ : Bool → ℕ → ℕ → ℕ) (g : Float → Float) 
   large-stays (inf s) h l = sym (r.at-inf s)
   large-stays (fin s m (pos k)) h l = whole-stays s m k h
   large-stays (fin s m (negsuc k)) h l = absurd (big-whole f s m k h l)
+
+  pub nothing-stays : (x : Float) → T (fits f x) → Nothing x → x ≡ g x
+  nothing-stays nan h z = sym r.at-nan
+  nothing-stays (inf s) h z = absurd z
+  nothing-stays (fin s m e) h z = subst (λ (d : ℤ). T (fits f (fin s m d)) → fin s m d ≡ g (fin s m d)) (sym z.1) (whole-stays s m 0) h
 
   -- ---- no NaN comes of what is none
   pub rounds-number : (x : Float) → T (not (is_nan x)) → T (not (is_nan (g x)))
@@ -106,7 +104,21 @@ module _ (f : Format) (σ : Bool → ℕ → ℕ → ℕ) (g : Float → Float) 
   rounds-value s m (pos k) h =
       subst (λ (z : Float). HasValue z s (σ s (m * 2 ^ k) 1) 1) (whole-stays s m k h) (refl, ap (λ (n : ℕ). n * 1) (sym (r.one s (m * 2 ^ k))))
 
-  -- ---- x * 0.0 is a zero with x's sign, and so is the result where σ is 0
+  -- ---- on a value above zero, and on the opposite of one: n is σ, and the code gives n
+  pub arm-plus : (x : Float) (n : ℕ) → T (positive x) → n ≡ σ false (num x) (den x) → of_int f (pos n) ≡ g x
+  arm-plus nan n p e = absurd p
+  arm-plus (inf s) n p e = absurd p
+  arm-plus (fin true m d) n p e = absurd p
+  arm-plus (fin false m d) n p e = of_int_is f n ∙ ap (λ (k : ℕ). round f false k 1) e ∙ sym (r.at-fin false m d)
+
+  pub arm-minus : (x : Float) (n : ℕ) → T (positive (neg x)) → n ≡ σ true (num (neg x)) (den (neg x)) → neg (of_int f (pos n)) ≡ g x
+  unfolding neg
+  arm-minus nan n p e = absurd p
+  arm-minus (inf s) n p e = absurd p
+  arm-minus (fin false m d) n p e = absurd p
+  arm-minus (fin true m d) n p e = ap neg (of_int_is f n) ∙ neg-round f n 1 ∙ ap (λ (k : ℕ). round f true k 1) e ∙ sym (r.at-fin true m d)
+
+  -- x * 0.0 is a zero with x's sign, and so is the result where σ is 0
   pub arm-zero : (s : Bool) (m : ℕ) (e : ℤ) → σ s (m * up e) (down e) ≡ 0 → mul f (fin s m e) zero32 ≡ g (fin s m e)
   arm-zero s m e h = times_zero f s m e ∙ ap (λ (n : ℕ). round f s n 1) (sym h) ∙ sym (r.at-fin s m e)
 

@@ -22,7 +22,7 @@ use Rattle.floats.proofs.Monotone.{div-mono-left, round-mono-whole}
 use Rattle.floats.proofs.NextWhole.{next_of}
 use Rattle.cell.specs.Cell.{image_axis}
 use Rattle.touch.specs.Touch.{cutoff2}
-use Rattle.gates.specs.Inner.{turns_of, clear_right, clear_left, holds_at, far_ends, far_point}
+use Rattle.gates.specs.Inner.{turns_of, clear_right, clear_left, holds_at, far_ends, far_images}
 use Rattle.gates.proofs.Axes.{Axis, quotient-finite, turns-within, turns-finite, image-sized, image-order}
 use Rattle.gates.proofs.Sure.{Apart, between}
 use Rattle.gates.proofs.Squares.{right_of, left-of}
@@ -89,21 +89,19 @@ module _ (k lo hi e d : Float) (fk : T (finite (cutoff2 k))) (E : Axis e) (wl : 
       E wl wh w h turns_next hl hh
 
 -- THE THEOREM: what the images of lo and hi reject is apart
-module _ (k lo hi e d : Float) (fk : T (finite (cutoff2 k))) (E : Axis e) (wl : Within (2 ^ 21) lo) (wh : Within (2 ^ 21) hi) (w : Within (2 ^ 21) d) (hl : T (le lo d)) (hh : T (le d hi)) where
-  pub ends-sound : far_ends k e lo hi ≡ true → Apart k d e
-  unfolding far_ends
-  ends-sound t = go (le (turns_of hi e) (turns_of lo e)) refl t
-    where
-      go : (b : Bool) → le (turns_of hi e) (turns_of lo e) ≡ b → cond b (clear_right k lo e || clear_left k hi e) (holds_at k (turns_of lo e) (add binary32 (turns_of lo e) one32) lo hi e) ≡ true → Apart k d e
-      go true h c = level k lo hi e d fk E wl wh w hl hh (holds h) c
-      go false h c = ends k lo hi e d fk E wl wh w hl hh c
+pub images-sound : (k lo hi e d : Float) → T (finite (cutoff2 k)) → Axis e → Within (2 ^ 21) lo → Within (2 ^ 21) hi → Within (2 ^ 21) d → T (le lo d) → T (le d hi) → far_images k e lo hi ≡ true → Apart k d e
+unfolding far_images far_ends
+images-sound k lo hi e d fk E wl wh w hl hh t = go (eq lo hi) refl t
+  where
+    fl : T (finite lo)
+    fl = within-finite (2 ^ 21) lo wl
 
-  -- where hi is the same number, lo stands for both
-  pub point-sound : far_point k e lo hi ≡ true → Apart k d e
-  unfolding far_point
-  point-sound t =
-      let p = both (eq lo hi) (clear_right k lo e || clear_left k lo e) t in
-      let fl = within-finite (2 ^ 21) lo wl in
-      let fh = within-finite (2 ^ 21) hi wh in
-      level k lo lo e d fk E wl wl w hl (le-trans-finite d hi lo (within-finite (2 ^ 21) d w) fh fl hh (eq-le lo hi fl fh (holds p.0)))
-      (le-refl-finite (turns_of lo e) (turns-finite lo e E wl)) p.1
+    next : (b : Bool) → le (turns_of hi e) (turns_of lo e) ≡ b → cond b (clear_right k lo e || clear_left k hi e) (holds_at k (turns_of lo e) (add binary32 (turns_of lo e) one32) lo hi e) ≡ true → Apart k d e
+    next true h c = level k lo hi e d fk E wl wh w hl hh (holds h) c
+    next false h c = ends k lo hi e d fk E wl wh w hl hh c
+
+    go : (b : Bool) → eq lo hi ≡ b → cond b (clear_right k lo e || clear_left k lo e) (far_ends k e lo hi) ≡ true → Apart k d e
+    go true h c =
+        level k lo lo e d fk E wl wl w hl (le-trans-finite d hi lo (within-finite (2 ^ 21) d w) (within-finite (2 ^ 21) hi wh) fl hh (eq-le lo hi fl (within-finite (2 ^ 21) hi wh) (holds h)))
+        (le-refl-finite (turns_of lo e) (turns-finite lo e E wl)) c
+    go false h c = next (le (turns_of hi e) (turns_of lo e)) refl c

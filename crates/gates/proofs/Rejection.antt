@@ -13,12 +13,12 @@ use Rattle.floats.proofs.Bounds.{Within}
 use Rattle.floats.proofs.Quotients.{within-finite}
 use Rattle.cell.specs.Reach.{sound_reach}
 use Rattle.gates.specs.declared.AxisTurns.{AxisTurns}
-use Rattle.gates.specs.Inner.{gate_at, ends_at, gate_start, far_of, rejects_of, guess_of, far_turns, SureAxis}
+use Rattle.gates.specs.Inner.{gate_at, ends_at, gate_start, far_of, far_images, rejects_of, guess_of, far_turns, SureAxis}
 use Rattle.gates.proofs.Axes.{Axis}
 use Rattle.gates.proofs.Squares.{cutoff-finite}
 use Rattle.gates.proofs.Sure.{Apart, certified-sure, gate-sure}
 use Rattle.gates.proofs.Ends.{far-sound}
-use Rattle.gates.proofs.Images.{ends-sound, point-sound}
+use Rattle.gates.proofs.Images.{images-sound}
 
 pub guess-below : (inverse a : Float) → guess_of inverse a ≤ 32767
 unfolding guess_of
@@ -32,11 +32,13 @@ module _ (k e : Float) (K : sound_reach k ≡ true) (E : Axis e) where
   pub gate-rejects : Rejects k e (far_of (gate_at k 0 e))
   gate-rejects lo d hi wl w wh = far-sound k (gate_at k 0 e) e lo d hi (gate-sure k 0 e K (omega arith) E) (within-finite (2 ^ 21) lo wl) (within-finite (2 ^ 21) hi wh) w
 
-  pub screen-rejects : (wide points : Bool) → Rejects k e (rejects_of wide points k e (gate_at k 0 e))
+  images-rejects : Rejects k e (far_images k e)
+  images-rejects lo d hi wl w wh hl hh = images-sound k lo hi e d (cutoff-finite k K) E wl wh w hl hh
+
+  pub screen-rejects : (wide : Bool) → Rejects k e (rejects_of wide k e (gate_at k 0 e))
   unfolding rejects_of
-  screen-rejects true true = λ lo d hi wl w wh hl hh. point-sound k lo hi e d (cutoff-finite k K) E wl wh w hl hh
-  screen-rejects true false = λ lo d hi wl w wh hl hh. ends-sound k lo hi e d (cutoff-finite k K) E wl wh w hl hh
-  screen-rejects false points = gate-rejects
+  screen-rejects true = images-rejects
+  screen-rejects false = gate-rejects
 
   pub turns-rejects : (s : AxisTurns) → SureAxis k e s → Rejects k e (far_turns s)
   unfolding far_turns

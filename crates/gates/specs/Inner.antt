@@ -82,18 +82,17 @@ unfolding turns_of clear_right clear_left holds_at
 far_ends k e lo hi =
     cond (le (turns_of hi e) (turns_of lo e)) (clear_right k lo e || clear_left k hi e) (holds_at k (turns_of lo e) (add binary32 (turns_of lo e) one32) lo hi e)
 
--- of lo alone, where hi is the same number
-unfoldable pub far_point : Float → Float → Float → Float → Bool
-unfolding clear_right clear_left
-far_point k e lo hi = eq lo hi && (clear_right k lo e || clear_left k lo e)
+-- and of lo alone where hi is the same number
+unfoldable pub far_images : Float → Float → Float → Float → Bool
+unfolding clear_right clear_left far_ends
+far_images k e lo hi = cond (eq lo hi) (clear_right k lo e || clear_left k lo e) (far_ends k e lo hi)
 
 -- by the gate, or by the images
-unfoldable pub rejects_of : Bool → Bool → Float → Float → Gate → Float → Float → Bool
-unfolding far_point far_ends far_of
-rejects_of wide points k e g lo hi = cond wide (cond points (far_point k e lo hi) (far_ends k e lo hi)) (far_of g lo hi)
+unfoldable pub rejects_of : Bool → Float → Float → Gate → Float → Float → Bool
+rejects_of wide k e g lo hi = cond wide (far_images k e lo hi) (far_of g lo hi)
 
-unfoldable pub screen_of : Bool → Bool → Float → Vec3 → Screen
-screen_of wide points k e = record { wide = wide; points = points; cutoff = k; e = e; g = gates_of k e }
+unfoldable pub screen_of : Bool → Float → Vec3 → Screen
+screen_of wide k e = record { wide = wide; cutoff = k; e = e; g = gates_of k e }
 
 -- ---- what the gates of many turns reject
 -- a guess of how many extents a separation a takes off, below 2 ^ 15: any number would do

@@ -3,9 +3,9 @@
 // A gate is tested once, at its ends, with the very functions of the definition; no error is estimated. Turn t has a gate of its own, from a
 // little past t extents to a little before the next. Lengths are in angstrom.
 #![tactic(auto)]
-ghost use Rattle.std.specs.Prelude.{◌≡◌, true, false, ◌||◌, ◌+◌, ◌<◌, ◌≤◌};
+ghost use Rattle.std.specs.Prelude.{◌≡◌, true, ◌||◌, ℕ, ◌+◌, ◌<◌, ◌≤◌};
 ghost use Rattle.cell.specs.Cell.{extent_of};
-ghost use Rattle.gates.specs.Inner.{turns_of, clear_right, clear_left, holds_at, short as short_of, ends_at, certified as certified_of, gate_at, gates_of, far_of, far_ends, far_point, rejects_of, screen_of, guess_of, far_turns, SureAxis, SureTurns};
+ghost use Rattle.gates.specs.Inner.{turns_of, clear_right, clear_left, holds_at, short as short_of, ends_at, certified as certified_of, gate_at, gates_of, far_of, far_ends, rejects_of, screen_of, guess_of, far_turns, SureAxis, SureTurns};
 
 use cell::{Cell, Vec3};
 use numbers::order::larger;
@@ -130,81 +130,64 @@ fn clear(cutoff: f32, d: f32, e: f32) -> bool
     ((0.0 < a) | (a < 0.0)) & (cutoff * cutoff < a * a)
 }
 
-// Whether the images of lo and hi keep apart all that lies from lo to hi. No branch turns on them.
+// Whether the images of lo and hi keep apart all that lies from lo to hi.
 fn far_ends(cutoff: f32, e: f32, lo: f32, hi: f32) -> bool
     ensures { result ≡ far_ends cutoff e lo hi }
 {
     let k = turns(lo, e);
-    let m = turns(hi, e);
-    let right = clear_right(cutoff, lo, e);
-    let left = clear_left(cutoff, hi, e);
-    let same = m <= k;
-    (same & (right | left)) | (!same & ((k <= k) & ((m <= k + 1.0) & (right & left))))
+    if turns(hi, e) <= k {
+        return clear_right(cutoff, lo, e) | clear_left(cutoff, hi, e);
+    }
+    holds(cutoff, k, k + 1.0, lo, hi, e)
 }
 
-// The same where lo and hi are one number, as of two single picks: one division is enough.
-fn far_point(cutoff: f32, e: f32, lo: f32, hi: f32) -> bool
-    ensures { result ≡ far_point cutoff e lo hi }
-{
-    (lo == hi) & clear(cutoff, lo, e)
-}
-
-// How the copies of a row are told apart: by the gates, or, where some stand over an extent away, by images; of single picks where `points` holds.
+// How the copies of a row are told apart: by the gates, or, where some stand over an extent away, by images.
 #[derive(Drop)]
 pub struct Screen {
     pub wide: bool,
-    pub points: bool,
     pub cutoff: f32,
     pub e: Vec3,
     pub g: Gates,
 }
 
 // The screen of a cell at the cutoff.
-pub fn screen_of(cell: Cell, cutoff: f32) -> Screen
-    ensures { result ≡ screen_of false false cutoff (extent_of cell) }
+pub fn screen_of(cell: Cell, cutoff: f32, wide: bool) -> Screen
+    ensures { result ≡ screen_of wide cutoff (extent_of cell) }
 {
     Screen {
-        wide: false,
-        points: false,
+        wide: wide,
         cutoff: cutoff,
         e: cell::extent(cell),
         g: gates_of(cell, cutoff),
     }
 }
 
-// The same screen for other copies.
-pub fn adapted(s: Screen, wide: bool, points: bool) -> Screen
-    ensures { result ≡ record { wide = wide; points = points; cutoff = s.cutoff; e = s.e; g = s.g } }
+// The same screen, by images where `wide` holds.
+pub fn widened(s: Screen, wide: bool) -> Screen
+    ensures { result ≡ record { wide = wide; cutoff = s.cutoff; e = s.e; g = s.g } }
 {
     let g = s.g;
     let e = s.e;
     Screen {
         wide: wide,
-        points: points,
         cutoff: s.cutoff,
         e: e,
         g: g,
     }
 }
 
-// Whether an axis of extent e, with the gate g, rejects every separation from lo to hi. In a loop over copies no branch turns on one of them.
+// Whether an axis of extent e, with the gate g, rejects every separation from lo to hi.
 pub fn rejects(wide: bool, cutoff: f32, e: f32, g: Gate, lo: f32, hi: f32) -> bool
-    ensures { result ≡ rejects_of wide false cutoff e g lo hi }
+    ensures { result ≡ rejects_of wide cutoff e g lo hi }
 {
     if wide {
+        // As of two single picks: one division is enough.
+        if lo == hi {
+            return clear(cutoff, lo, e);
+        }
         return far_ends(cutoff, e, lo, hi);
     }
     far(g, lo, hi)
-}
-
-// The same for one separation, as of two single picks.
-pub fn rejects_point(wide: bool, cutoff: f32, e: f32, g: Gate, d: f32) -> bool
-    ensures { result ≡ rejects_of wide true cutoff e g d d }
-{
-    if wide {
-        return far_point(cutoff, e, d, d);
-    }
-    far(g, d, d)
 }
 
 // ---- the test by the gates of many turns, for loops without a branch

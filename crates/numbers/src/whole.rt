@@ -1,11 +1,48 @@
 // Floor, and round with halves away from zero. A zero result takes the argument's sign; NaN and infinities stay.
-// Round's whole part comes by a sum, and floor's from round's.
+// From 2^23 on every f32 is whole. Below it floor's whole part comes by shifts and masks, and from 0 up to 1 by comparisons; round's comes by a sum.
 ghost use Rattle.std.specs.Prelude.{◌≡◌, if◌then◌else◌, from_bits, to_bits};
 ghost use Rattle.std.specs.Float.{binary32};
 ghost use Rattle.floats.specs.Whole.{floor_of, round_of};
 
 use crate::class::{from_bits32, to_bits32};
 use crate::order::larger;
+
+fn floor_any32(x: f32) -> f32
+    ensures { result ≡ floor_of binary32 x }
+{
+    if x > 0.0 {
+        if x < 8388608.0 {
+            return std::num::truncating_f32_to_u64(x) as f32;
+        }
+        return x;
+    }
+    if x < 0.0 {
+        if x > -8388608.0 {
+            let a = -x;
+            let w = std::num::truncating_f32_to_u64(a);
+            // A fraction is left over: the whole number below x is one further from zero.
+            if (w as f32) < a {
+                return -((w + 1) as f32);
+            }
+            return -(w as f32);
+        }
+        return x;
+    }
+    x
+}
+
+// The largest whole number that is not above x.
+pub fn floor32(x: f32) -> f32
+    ensures { result ≡ floor_of binary32 x }
+{
+    if x < 1.0 {
+        if x >= 0.0 {
+            return x * 0.0; // from 0 up to 1
+        }
+        return floor_any32(x);
+    }
+    floor_any32(x)
+}
 
 // 1 where t holds, else 0.
 fn unit(t: bool) -> f32
@@ -31,14 +68,6 @@ pub fn round32(x: f32) -> f32
         return x * 0.0 - opposite;
     }
     x
-}
-
-// The largest whole number that is not above x: the nearest one, or one less where that is above x. A zero less 0 keeps its sign.
-pub fn floor32(x: f32) -> f32
-    ensures { result ≡ floor_of binary32 x }
-{
-    let w = round32(x);
-    w - unit(x < w)
 }
 
 // The bits of the floor of the f32 whose bits are b. Every NaN gives 7FC00000.

@@ -2,12 +2,11 @@
 // byte for byte with the listing recorded beside it. Prints how many blocks there were and how many agreed, and the number of the
 // first, from 0, that did not. The file (oracle/README.md, 'Recorded answers') is a count, then for each block its length, its bytes,
 // the length of its listing and the listing; counts and lengths are four bytes, the lowest first.
+#![tactic(auto)]
+ghost use Rattle.std.specs.Prelude.{◌+◌, ◌^◌, ◌≤◌, ◌<◌, length};
+
 use block_text::TEXT_ROOM;
-use libc::STDIN_FILENO;
-use libc::STDOUT_FILENO;
-ghost use Prim.Native.Nat.{_+_, _^_, _≤_, _<_};
-ghost use lib.ListN.{length};
-ghost use Rattle·base.specs.Entry.{old};
+use libc::{STDIN_FILENO, STDOUT_FILENO};
 
 fn text(s: &[u8]) {
     io::write_all(STDOUT_FILENO, s);
@@ -18,16 +17,16 @@ fn decimal(n: usize) {
 }
 
 fn byte(bytes: &[u8], at: usize) -> usize
-    requires { ⌜ at < length (now bytes) ⌝ }
-    ensures { λ r. ⌜ r < 256 ⌝ }
+    requires { at < length bytes.now }
+    ensures { result < 256 }
 {
     bytes[at] as usize
 }
 
 // The first four bytes as a number.
 fn word(bytes: &[u8]) -> usize
-    requires { ⌜ 4 ≤ length (now bytes) ⌝ }
-    ensures { λ r. ⌜ r < 2 ^ 32 ⌝ }
+    requires { 4 ≤ length bytes.now }
+    ensures { result < 2 ^ 32 }
 {
     byte(bytes, 0) + byte(bytes, 1) * 256 + byte(bytes, 2) * 65536 + byte(bytes, 3) * 16777216
 }
@@ -65,6 +64,7 @@ fn agrees(block: &[u8], recorded: &[u8]) -> bool {
 }
 
 // A record: the bytes that it takes up, 0 where the file is cut off in it, and whether it agrees.
+#[derive(Drop)]
 struct Replayed {
     used: usize,
     agrees: bool,
@@ -77,7 +77,7 @@ const CUT: Replayed = Replayed {
 
 // The first record of the rest of the file.
 fn record(rest: &[u8]) -> Replayed
-    ensures { λ r. ⌜ r .used ≤ length (old rest) ⌝ }
+    ensures { result.used ≤ length (old rest) }
 {
     if rest.len() < 4 {
         return CUT;
@@ -102,8 +102,8 @@ fn record(rest: &[u8]) -> Replayed
 
 // One more where it is so.
 fn counted(n: usize, so: bool) -> usize
-    requires { ⌜ n < 2 ^ 32 ⌝ }
-    ensures { λ r. ⌜ r ≤ n + 1 ⌝ }
+    requires { n < 2 ^ 32 }
+    ensures { result ≤ n + 1 }
 {
     if so { n + 1 } else { n }
 }

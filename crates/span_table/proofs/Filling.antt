@@ -1,5 +1,5 @@
--- One axis of a span table, a copy at a time; some copies may be left out. Assumes nothing.
-use mathlib.Core.Path.{◌≡◌, refl, subst, ◌∙◌}
+-- One axis of the span table, a copy at a time. Assumes nothing.
+use mathlib.Core.Path.{◌≡◌, refl, ◌∙◌}
 use mathlib.Core.Logic.{inl, inr}
 use mathlib.Core.List.{List}
 use Prim.Native.Nat.{ℕ, ◌+◌, ◌*◌, ◌≤◌, ◌<◌, zero-le}
@@ -9,23 +9,23 @@ use lib.ListN.{length, get_or, set, length-set}
 use lib.Seq.{get_or-set_same, get_or-set_other}
 use lib.Ieee.{Float, nan}
 
--- in the table t the chosen copies before i have their ends, and all past the table is as in t₀
-pub record Filled (chosen : ℕ → Type 0) (low high : ℕ → Float) (at n : ℕ) (t₀ : List Float) (i : ℕ) (t : List Float) : Type 0 where
+-- in the table t the copies before i have their ends, and all else is as in t₀
+pub record Filled (low high : ℕ → Float) (at n : ℕ) (t₀ : List Float) (i : ℕ) (t : List Float) : Type 0 where
   pub same : length t ≡ length t₀
   pub most : i ≤ n
-  pub least : (m : ℕ) → m < i → chosen m → get_or t (at + m) nan ≡ low m
-  pub greatest : (m : ℕ) → m < i → chosen m → get_or t (at + n + m) nan ≡ high m
+  pub least : (m : ℕ) → m < i → get_or t (at + m) nan ≡ low m
+  pub greatest : (m : ℕ) → m < i → get_or t (at + n + m) nan ≡ high m
   pub before : (m : ℕ) → m < at → get_or t m nan ≡ get_or t₀ m nan
   pub past : (m : ℕ) → at + 2 * n ≤ m → get_or t m nan ≡ get_or t₀ m nan
 
-module _ (chosen : ℕ → Type 0) (low high : ℕ → Float) (at n : ℕ) (t₀ : List Float) where
-  pub filled_none : Filled chosen low high at n t₀ 0 t₀
-  filled_none = record { same = refl; most = zero-le; least = λ m l c. absurd (none m l); greatest = λ m l c. absurd (none m l); before = λ m l. refl; past = λ m l. refl }
+module _ (low high : ℕ → Float) (at n : ℕ) (t₀ : List Float) where
+  pub filled_none : Filled low high at n t₀ 0 t₀
+  filled_none = record { same = refl; most = zero-le; least = λ m l. absurd (none m l); greatest = λ m l. absurd (none m l); before = λ m l. refl; past = λ m l. refl }
     where
       none : (m : ℕ) → m < 0 → ⊥
       none m l = omega arith
 
-  module _ (i : ℕ) (t : List Float) (v w : Float) (fits : at + 2 * n ≤ length t₀) (l : i < n) (ev : v ≡ low i) (ew : w ≡ high i) (f : Filled chosen low high at n t₀ i t) where
+  module _ (i : ℕ) (t : List Float) (v w : Float) (fits : at + 2 * n ≤ length t₀) (l : i < n) (ev : v ≡ low i) (ew : w ≡ high i) (f : Filled low high at n t₀ i t) where
     abbrev t' : List Float
     t' = set (set t (at + i) v) (at + n + i) w
 
@@ -43,36 +43,21 @@ module _ (chosen : ℕ → Type 0) (low high : ℕ → Float) (at n : ℕ) (t₀
     last : (m : ℕ) → m < i + 1 → m ≤ i
     last m h = omega arith
 
-    pub filled_next : Filled chosen low high at n t₀ (i + 1) t'
+    pub filled_next : Filled low high at n t₀ (i + 1) t'
     filled_next =
         record {
           same = simp length-set f.same;
           most = omega arith;
-          least = λ m h c.
+          least = λ m h.
               elim (eq-or-lt_of_le (last m h)) [
                 | inl q ↦ rw q (here ∙ ev)
-                | inr q ↦ other (at + m) (λ p. omega arith) (λ p. omega arith) ∙ f.least m q c
+                | inr q ↦ other (at + m) (λ p. omega arith) (λ p. omega arith) ∙ f.least m q
               ];
-          greatest = λ m h c.
+          greatest = λ m h.
               elim (eq-or-lt_of_le (last m h)) [
                 | inl q ↦ rw q (there ∙ ew)
-                | inr q ↦ other (at + n + m) (λ p. omega arith) (λ p. omega arith) ∙ f.greatest m q c
+                | inr q ↦ other (at + n + m) (λ p. omega arith) (λ p. omega arith) ∙ f.greatest m q
               ];
           before = λ m h. other m (λ p. omega arith) (λ p. omega arith) ∙ f.before m h;
           past = λ m h. other m (λ p. omega arith) (λ p. omega arith) ∙ f.past m h;
         }
-
-  -- a copy that is left out
-  pub filled-past : (i : ℕ) (t : List Float) → i < n → (chosen i → ⊥) → Filled chosen low high at n t₀ i t → Filled chosen low high at n t₀ (i + 1) t
-  filled-past i t l out f =
-      record {
-        same = f.same;
-        most = omega arith;
-        least = λ m h c. elim (eq-or-lt_of_le (last m h)) [ inl q ↦ absurd (out (subst chosen q c)) | inr q ↦ f.least m q c ];
-        greatest = λ m h c. elim (eq-or-lt_of_le (last m h)) [ inl q ↦ absurd (out (subst chosen q c)) | inr q ↦ f.greatest m q c ];
-        before = f.before;
-        past = f.past;
-      }
-    where
-      last : (m : ℕ) → m < i + 1 → m ≤ i
-      last m h = omega arith

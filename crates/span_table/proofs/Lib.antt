@@ -1,5 +1,5 @@
 -- The laws that the proofs of this crate and of the layers above it cite.
--- one axis of a span table, a copy at a time
+-- one axis of the span table, a copy at a time
 pub mod Filling
 -- the whole span table
 pub mod Table
@@ -7,9 +7,3 @@ pub mod Table
 pub mod Flags
 -- copies whose boxes are kept apart
 pub mod Apart
--- the first number that fails a test
-pub mod Past
--- the flags of a block of copies against one box
-pub mod Blocks
--- copies of one pick
-pub mod Points

@@ -25,14 +25,14 @@ use Rattle.touch.proofs.Any.{any_none}
 use Rattle.gates.specs.declared.Gates.{Gates}
 use Rattle.gates.specs.declared.Screen.{Screen}
 use Rattle.gates.specs.declared.TurnGates.{TurnGates}
-use Rattle.gates.specs.Inner.{gates_of, far_of, screen_of, far_turns, SureTurns, tested}
+use Rattle.gates.specs.Inner.{gates_of, far_of, rejects_of, screen_of, far_turns, SureTurns, tested}
 use Rattle.floats.proofs.Order.{le-refl-finite}
 use Rattle.gates.proofs.Axes.{tested-is, tested-axes, tested-atom}
 use Rattle.gates.proofs.Sure.{Apart}
 use Rattle.gates.proofs.Rejection.{Rejects, gate-rejects, screen-rejects, turns-rejects}
 use Rattle.gates.proofs.Atoms.{apart-x, apart-y, apart-z}
 use Rattle.spans.specs.declared.Span.{Span}
-use Rattle.spans.specs.Inner.{coordinate, least_of, greatest_of, span_of, apart_by, on_x, on_y, on_z}
+use Rattle.spans.specs.Inner.{coordinate, least_of, greatest_of, span_of, apart_by}
 use Rattle.spans.proofs.Least.{AllIn, ended}
 
 -- ---- one axis: p from p₀ to p₁, q from q₀ to q₁
@@ -126,13 +126,14 @@ module _ (c : Cell) (k : Float) (xs : List Float) (h : tested c k xs ≡ true) w
       let E = tested-axes c k xs h in
       rw is (record { on-x = gate-rejects k e.x K E.on-x; on-y = gate-rejects k e.y K E.on-y; on-z = gate-rejects k e.z K E.on-z })
 
-  pub screen-tests : (s : Screen) (w p : Bool) → s ≡ screen_of w p k (extent_of c) → Tests k (extent_of c) (on_x s) (on_y s) (on_z s)
+  pub screen-tests : (s : Screen) (w : Bool) → s ≡ screen_of w k (extent_of c)
+      → Tests k (extent_of c) (rejects_of s.wide s.cutoff s.e.x s.g.x) (rejects_of s.wide s.cutoff s.e.y s.g.y) (rejects_of s.wide s.cutoff s.e.z s.g.z)
   unfolding screen_of gates_of
-  screen-tests s w p is =
+  screen-tests s w is =
       let e = extent_of c in
       let K = (tested-is c k xs h).reach in
       let E = tested-axes c k xs h in
-      rw is (record { on-x = screen-rejects k e.x K E.on-x w p; on-y = screen-rejects k e.y K E.on-y w p; on-z = screen-rejects k e.z K E.on-z w p })
+      rw is (record { on-x = screen-rejects k e.x K E.on-x w; on-y = screen-rejects k e.y K E.on-y w; on-z = screen-rejects k e.z K E.on-z w })
 
   pub turns-tests : (s : TurnGates) → SureTurns k (extent_of c) s → Tests k (extent_of c) (far_turns s.x) (far_turns s.y) (far_turns s.z)
   turns-tests s sure =
@@ -198,3 +199,24 @@ apart-copies f k x y z i j b s sound h R li lj eb es t =
     let l = sound-lists f.solutes f.starts f.picks sound in
     apart-lists f.cell k f.solutes x y z (pick_list f.starts f.picks i) (pick_list f.starts f.picks j) h R (copy_some f.solutes f.starts f.picks l i li) (copy_some f.solutes f.starts f.picks l j lj)
     (copy-finite f.solutes f.starts f.picks l i li) (copy-finite f.solutes f.starts f.picks l j lj) (rw (eb, es) at t)
+
+-- ---- the boxes' axes one after the other: what an axis says of the ends lo and hi of one box and low and high of the other
+abbrev axis_far : (Float → Float → Bool) → Float → Float → Float → Float → Bool
+axis_far f lo hi low high = f (sub binary32 lo high) (sub binary32 hi low)
+
+-- x, y and z are what the axes say; one that was not worked out is as the definition has it
+module _ (f g h : Float → Float → Bool) (s : Span) (xs : List Float) (qs : List ℕ) (x : Bool) (is_x : x ≡ axis_far f (least_of xs 0 qs) (greatest_of xs 0 qs) s.low.x s.high.x) where
+  apart-is : (y z : Bool) → y ≡ axis_far g (least_of xs 1 qs) (greatest_of xs 1 qs) s.low.y s.high.y
+      → z ≡ axis_far h (least_of xs 2 qs) (greatest_of xs 2 qs) s.low.z s.high.z → apart_by f g h s (span_of xs qs) ≡ (x || (y || z))
+  unfolding apart_by span_of
+  apart-is y z is_y is-z = rw (is_x, is_y, is-z) refl
+
+  pub by-x : x ≡ true → true ≡ apart_by f g h s (span_of xs qs)
+  by-x on = sym (apart-is _ _ refl refl ∙ rw on refl)
+
+  module _ (off : x ≡ false) (y : Bool) (is_y : y ≡ axis_far g (least_of xs 1 qs) (greatest_of xs 1 qs) s.low.y s.high.y) where
+    pub by-y : y ≡ true → true ≡ apart_by f g h s (span_of xs qs)
+    by-y on = sym (apart-is y _ is_y refl ∙ rw (off, on) refl)
+
+    pub by-z : y ≡ false → (z : Bool) → z ≡ axis_far h (least_of xs 2 qs) (greatest_of xs 2 qs) s.low.z s.high.z → z ≡ apart_by f g h s (span_of xs qs)
+    by-z out z is-z = sym (apart-is y z is_y is-z ∙ rw (off, out) refl)

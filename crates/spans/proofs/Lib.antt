@@ -5,5 +5,7 @@ pub mod Least
 pub mod Between
 -- boxes on a level
 pub mod OnLevel
+-- the first number that fails a test
+pub mod Past
 -- a list in parts
 pub mod Parts

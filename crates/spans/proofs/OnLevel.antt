@@ -1,9 +1,9 @@
 -- Boxes on a level. Each separation from one to the other takes off as many extents as the least of them, so that its image is the separation less those
 -- extents, and a point whose gap from the box is clear of the cutoff is near none of its picks. Assumes nothing.
-use mathlib.Core.Path.{◌≡◌, refl}
-use mathlib.Core.Bool.{Bool, true, false, ◌&&◌, cond}
+use mathlib.Core.Path.{◌≡◌, refl, sym}
+use mathlib.Core.Bool.{Bool, true, false, not, ◌&&◌, cond}
 use mathlib.Core.List.{List}
-use Prim.Native.Nat.{ℕ, ◌≤◌, ◌<◌}
+use Prim.Native.Nat.{ℕ, ◌^◌, ◌≤◌, ◌<◌}
 use native.Mathlib.Omega.{arith}
 use lib.Dec.{T}
 use lib.ListN.{length, get_or, drop}
@@ -12,21 +12,22 @@ use lib.Ieee.Scale.{finite}
 use Rattle.floats.specs.Constants.{zero32}
 use Rattle.floats.specs.Order.{larger}
 use Rattle.floats.proofs.Tests.{holds, both}
+use Rattle.floats.proofs.Bounds.{Within}
+use Rattle.floats.proofs.Signed.{lt_not_le}
 use Rattle.floats.proofs.Magnitudes.{le-trans-all}
-use Rattle.floats.proofs.Order.{le-refl-finite}
 use Rattle.cell.specs.declared.Cell.{Cell}
 use Rattle.cell.specs.declared.Vec3.{Vec3}
-use Rattle.cell.specs.Cell.{image_axis, extent_of, minus, min_image, distance2, point_at, finite_point}
+use Rattle.cell.specs.Cell.{image_axis, extent_of, minus, min_image, distance2, squared, point_at, finite_point}
 use Rattle.touch.specs.Touch.{cutoff2, near, any_in}
 use Rattle.gates.specs.Inner.{turns_of, tested}
-use Rattle.gates.proofs.Axes.{Axis, Axes, tested-is, tested-axes}
+use Rattle.gates.proofs.Axes.{Axis, Axes, image-sized, tested-is, tested-axes}
 use Rattle.gates.proofs.Squares.{cutoff-finite}
 use Rattle.gates.proofs.Sure.{Apart}
 use Rattle.gates.proofs.Levels.{Same, level-image, level-clear, sized_on, same-squared}
-use Rattle.gates.proofs.Atoms.{image-around}
+use Rattle.gates.proofs.Atoms.{apart-around, image-around, apart-x, apart-y, apart-z}
 use Rattle.spans.specs.declared.Span.{Span}
 use Rattle.spans.specs.declared.Level.{Level}
-use Rattle.spans.specs.Inner.{span_of, point_span, level_axis, level_of, clear_by, passed_over, image_on, near_on}
+use Rattle.spans.specs.Inner.{span_of, point_span, apart_by, level_axis, level_of, clear_by, passed_over, over_axis, near_by, near_on}
 use Rattle.spans.proofs.Between.{Between, separated, itself, Inside, some-axis, pick-inside, none_in, Finite, begins}
 
 -- ---- one axis: p from p₀ to p₁, q from q₀ to q₁
@@ -63,12 +64,6 @@ module _ (e p₀ p p₁ q₀ q q₁ : Float) (E : Axis e) (P : Between p₀ p p�
       last : Between q₀ q q₁ → Between q₀ q₁ q₁
       last B = record { low-in = B.low-in; at_in = B.high-in; high-in = B.high-in; from = le-trans-all q₀ q q₁ B.from B.to; to = (itself q₁ B.high-in).to }
 
--- what the code takes for the image is the same number
-image-same : (level : Bool) (by d e : Float) → T (finite (image_axis d e)) → (level ≡ true → Same (sub binary32 d by) (image_axis d e)) → Same (image_on level by d e) (image_axis d e)
-unfolding image_on
-image-same true by d e f is = is refl
-image-same false by d e f is = let r = le-refl-finite (image_axis d e) f in record { to = r; from = r }
-
 -- ---- two atoms, in the boxes b and s
 module _ (c : Cell) (k : Float) (xs : List Float) (h : tested c k xs ≡ true) (b s : Span) (p q : ℕ) (fp : finite_point (point_at xs p) ≡ true) (fq : finite_point (point_at xs q) ≡ true)
     (P : Inside b (point_at xs p)) (Q : Inside s (point_at xs q)) where
@@ -87,21 +82,47 @@ module _ (c : Cell) (k : Float) (xs : List Float) (h : tested c k xs ≡ true) (
   abbrev E : Axes e
   E = tested-axes c k xs h
 
+  -- an axis whose image is over the cutoff keeps the atoms apart
+  over-apart : (d f : Float) → Axis f → Within (2 ^ 21) d → over_axis k d f ≡ true → Apart k d f
+  unfolding over_axis
+  over-apart d f F w t =
+      lt_not_le (mul binary32 (image_axis d f) (image_axis d f)) (cutoff2 k) (image-sized d f F w).square (cutoff-finite k (tested-is c k xs h).reach) (holds t)
+
+  -- near an axis at a time is near
+  near_by : near_by k e (point_at xs p) (point_at xs q) ≡ near k e xs p q
+  unfolding near_by near
+  near_by =
+      let d = minus (point_at xs q) (point_at xs p) in
+      let w = apart-around c k xs h p q fp fq in
+      by-axis (over_axis k d.x e.x) (λ t. apart-x c k xs h p q fp fq (over-apart d.x e.x E.on-x w.on-x t))
+      (by-axis (over_axis k d.y e.y) (λ t. apart-y c k xs h p q fp fq (over-apart d.y e.y E.on-y w.on-y t))
+      (by-axis (over_axis k d.z e.z) (λ t. apart-z c k xs h p q fp fq (over-apart d.z e.z E.on-z w.on-z t)) refl))
+    where
+      by-axis : (o : Bool) {r n : Bool} → (o ≡ true → n ≡ false) → r ≡ n → (not o && r) ≡ n
+      by-axis true f is = sym (f refl)
+      by-axis false f is = is
+
   -- near by the level is near
   pub level-near : near_on k e (level_of e b s) (point_at xs p) (point_at xs q) ≡ near k e xs p q
   unfolding near_on level_of near distance2 min_image minus
-  level-near =
-      let by = (level_of e b s).by in
-      let d = minus (point_at xs q) (point_at xs p) in
-      let w = image-around c k xs h p q fp fq in
-      let size = sized_on (min_image e d) w in
-      same-squared (record { x = image_on sx by.x d.x e.x; y = image_on sy by.y d.y e.y; z = image_on sz by.z d.z e.z }) (min_image e d) (cutoff2 k)
-      (record {
-        on-x = image-same sx by.x d.x e.x size.on-x.own (axis-same e.x b.low.x (point_at xs p).x b.high.x s.low.x (point_at xs q).x s.high.x E.on-x P.on-x Q.on-x);
-        on-y = image-same sy by.y d.y e.y size.on-y.own (axis-same e.y b.low.y (point_at xs p).y b.high.y s.low.y (point_at xs q).y s.high.y E.on-y P.on-y Q.on-y);
-        on-z = image-same sz by.z d.z e.z size.on-z.own (axis-same e.z b.low.z (point_at xs p).z b.high.z s.low.z (point_at xs q).z s.high.z E.on-z P.on-z Q.on-z);
-      })
-      size
+  level-near = go (sx && (sy && sz)) refl
+    where
+      by : Vec3
+      by = (level_of e b s).by
+
+      go : (t : Bool) → sx && (sy && sz) ≡ t
+          → cond t (le (squared (minus (minus (point_at xs q) (point_at xs p)) by)) (cutoff2 k)) (near_by k e (point_at xs p) (point_at xs q)) ≡ near k e xs p q
+      go false t = near_by
+      go true t =
+          let a = both sx (sy && sz) t in
+          let d = both sy sz a.1 in
+          same-squared (minus (minus (point_at xs q) (point_at xs p)) by) (min_image e (minus (point_at xs q) (point_at xs p))) (cutoff2 k)
+          (record {
+            on-x = axis-same e.x b.low.x (point_at xs p).x b.high.x s.low.x (point_at xs q).x s.high.x E.on-x P.on-x Q.on-x a.0;
+            on-y = axis-same e.y b.low.y (point_at xs p).y b.high.y s.low.y (point_at xs q).y s.high.y E.on-y P.on-y Q.on-y d.0;
+            on-z = axis-same e.z b.low.z (point_at xs p).z b.high.z s.low.z (point_at xs q).z s.high.z E.on-z P.on-z Q.on-z d.1;
+          })
+          (sized_on (min_image e (minus (point_at xs q) (point_at xs p))) (image-around c k xs h p q fp fq))
 
   -- a point that is passed over is not near
   pub passed-near : passed_over k (level_of e b s) (point_at xs p) s ≡ true → near k e xs p q ≡ false

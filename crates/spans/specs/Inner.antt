@@ -1,11 +1,12 @@
 -- Boxes around the picks of a copy, when two boxes are kept apart, and when all separations from one to the other take off the same number of extents. Lengths are in angstrom.
 -- Definitions only. Assumes nothing.
-use Rattle.std.specs.Prelude.{◌≡◌, Bool, true, ◌&&◌, ◌||◌, cond, List, [], ◌∷◌, ℕ, ◌+◌, ◌*◌, ◌<◌, length, get_or, take, drop, Float}
+use Rattle.std.specs.Prelude.{◌≡◌, Bool, true, not, ◌&&◌, ◌||◌, cond, List, [], ◌∷◌, ℕ, zero, suc, ◌+◌, ◌*◌, ◌<◌, length, get_or, take, drop, Float}
 use Rattle.std.specs.Float.{nan, binary32}
 use Rattle.std.specs.Float.Ieee.{neg, sub, mul, lt, le}
 use Rattle.floats.specs.Constants.{zero32}
 use Rattle.cell.specs.declared.Vec3.{Vec3}
-use Rattle.cell.specs.Cell.{image_axis, squared, minus, point_at, finite_point}
+use Rattle.cell.specs.Cell.{image_axis, squared, minus, distance2, point_at, finite_point}
+use Rattle.pick_lists.specs.Sound.{pick_list}
 use Rattle.gates.specs.declared.Gates.{Gates}
 use Rattle.gates.specs.declared.Screen.{Screen}
 use Rattle.gates.specs.declared.TurnGates.{TurnGates}
@@ -66,15 +67,13 @@ apart_of g = apart_by (far_of g.x) (far_of g.y) (far_of g.z)
 abbrev pub apart_turns : TurnGates → Span → Span → Bool
 apart_turns s = apart_by (far_turns s.x) (far_turns s.y) (far_turns s.z)
 
--- a screen's tests of its axes
-abbrev pub on_x : Screen → Float → Float → Bool
-on_x s = rejects_of s.wide s.points s.cutoff s.e.x s.g.x
+-- by a screen
+abbrev pub apart_screen : Screen → Span → Span → Bool
+apart_screen s = apart_by (rejects_of s.wide s.cutoff s.e.x s.g.x) (rejects_of s.wide s.cutoff s.e.y s.g.y) (rejects_of s.wide s.cutoff s.e.z s.g.z)
 
-abbrev pub on_y : Screen → Float → Float → Bool
-on_y s = rejects_of s.wide s.points s.cutoff s.e.y s.g.y
-
-abbrev pub on_z : Screen → Float → Float → Bool
-on_z s = rejects_of s.wide s.points s.cutoff s.e.z s.g.z
+-- a screen keeps copy j apart from the box b
+abbrev pub apart_from : Screen → List Float → List ℕ → List ℕ → Span → ℕ → Bool
+apart_from s xs starts picks b j = apart_screen s b (span_of xs (pick_list starts picks j))
 
 -- the boxes stand over an extent apart on some axis
 unfoldable pub outside_of : Vec3 → Span → Span → Bool
@@ -114,16 +113,26 @@ unfoldable pub passed_over : Float → Level → Vec3 → Span → Bool
 unfolding clear_by
 passed_over k l p c = apart_by (clear_by l.x k l.by.x) (clear_by l.y k l.by.y) (clear_by l.z k l.by.z) (point_span p) c
 
--- the image of d on an axis of extent e: d less `by` where the boxes are on a level there, otherwise the minimum image
-unfoldable pub image_on : Bool → Float → Float → Float → Float
-image_on level by d e = cond level (sub binary32 d by) (image_axis d e)
+-- the image of d is over the cutoff k on an axis of extent e
+unfoldable pub over_axis : Float → Float → Float → Bool
+over_axis k d e = lt (cutoff2 k) (mul binary32 (image_axis d e) (image_axis d e))
 
--- points p and q are at most the cutoff apart, by these images
-unfoldable pub near_on : Float → Vec3 → Level → Vec3 → Vec3 → Bool
-unfolding image_on
-near_on k e l p q =
+-- points p and q are at most the cutoff apart, an axis at a time
+unfoldable pub near_by : Float → Vec3 → Vec3 → Vec3 → Bool
+unfolding over_axis
+near_by k e p q =
     let d = minus q p in
-    le (squared (record { x = image_on l.x l.by.x d.x e.x; y = image_on l.y l.by.y d.y e.y; z = image_on l.z l.by.z d.z e.z })) (cutoff2 k)
+    not (over_axis k d.x e.x) && (not (over_axis k d.y e.y) && (not (over_axis k d.z e.z) && le (distance2 e p q) (cutoff2 k)))
+
+-- by the level, where the boxes are on one on all axes, or by the minimum image
+unfoldable pub near_on : Float → Vec3 → Level → Vec3 → Vec3 → Bool
+unfolding near_by
+near_on k e l p q = cond (l.x && (l.y && l.z)) (le (squared (minus (minus q p) l.by)) (cutoff2 k)) (near_by k e p q)
+
+-- the first number from j on that fails a test, or the one after the k numbers from j on
+unfoldable pub first_past : (ℕ → Bool) → ℕ → ℕ → ℕ
+first_past f zero j = j
+first_past f (suc k) j = cond (f j) (first_past f k (suc j)) j
 
 -- ---- lists in parts
 -- the part from pick k on

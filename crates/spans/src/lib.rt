@@ -2,17 +2,17 @@
 // pairs of picks is looked at. Where they are not, all separations from one box to the other nearly always take off the same number of extents,
 // and a search over the picks needs no division. Lengths are in angstrom.
 #![tactic(auto)]
-ghost use Rattle.std.specs.Prelude.{◌≡◌, true, cond, [], ℕ, ◌+◌, ◌*◌, ◌<◌, ◌≤◌, length, get_or};
+ghost use Rattle.std.specs.Prelude.{◌≡◌, true, cond, [], ℕ, ◌+◌, ◌-◌, ◌*◌, ◌<◌, ◌≤◌, length, get_or};
 ghost use Rattle.base.specs.Limits.{max_picks};
-ghost use Rattle.cell.specs.Cell.{extent_of};
+ghost use Rattle.cell.specs.Cell.{extent_of, point_at, finite_point};
 ghost use Rattle.pick_lists.specs.Sound.{sound_lists, copies, pick_list};
 ghost use Rattle.pick_lists.specs.Input.{given};
 ghost use Rattle.touch.specs.Touch.{near as near_of, any_pair, copies_touch};
 ghost use Rattle.gates.specs.Inner.{tested};
-ghost use Rattle.spans.specs.Inner.{coordinate as coordinate_of, least_of, greatest_of, span_of, apart_of, apart_turns, outside_of, level_axis, level_of, clear_by, passed_over, image_on, near_on, part_of, FinitePicks};
+ghost use Rattle.spans.specs.Inner.{coordinate as coordinate_of, least_of, greatest_of, span_of, apart_of, apart_turns, outside_of, level_axis, level_of, clear_by, passed_over, over_axis, near_by, near_on, apart_screen, apart_from, first_past, part_of, FinitePicks};
 
 use cell::{Cell, Vec3};
-use gates::{Gates, TurnGates};
+use gates::{Gates, Screen, TurnGates};
 
 // ---- the box of some picks
 
@@ -134,31 +134,41 @@ fn passed_over(cutoff: f32, level: Level, p: Vec3, c: Span) -> bool
             | clear_by(level.z, cutoff, level.by.z, c.low.z - p.z, c.high.z - p.z))
 }
 
-// The image of d on an axis of extent e. On a level there is no division, and no branch turns on d.
-fn image_on(level: bool, by: f32, d: f32, e: f32) -> f32
-    ensures { result ≡ image_on level by d e }
+// Whether the image of d is over the cutoff on an axis of extent e.
+fn over_axis(cutoff: f32, d: f32, e: f32) -> bool
+    ensures { result ≡ over_axis cutoff d e }
 {
-    if level {
-        return d - by;
-    }
-    cell::image_axis(d, e)
+    let a = cell::image_axis(d, e);
+    cutoff * cutoff < a * a
 }
 
-// Whether two points are at most the cutoff apart. The arm of all three axes is the same, and quicker.
+// Whether two points are at most the cutoff apart, wherever they are. Most pairs are settled by their first axis.
+fn near_by(cutoff: f32, e: Vec3, p: Vec3, q: Vec3) -> bool
+    ensures { result ≡ near_by cutoff e p q }
+{
+    let d = cell::separation(p, q);
+    if over_axis(cutoff, d.x, e.x) {
+        return false;
+    }
+    if over_axis(cutoff, d.y, e.y) {
+        return false;
+    }
+    if over_axis(cutoff, d.z, e.z) {
+        return false;
+    }
+    cell::distance_squared(e, p, q) <= cutoff * cutoff
+}
+
+// Whether two points are at most the cutoff apart. On a level there is no division, and no branch turns on a separation.
 fn near_on(cutoff: f32, e: Vec3, level: Level, p: Vec3, q: Vec3) -> bool
     ensures { result ≡ near_on cutoff e level p q }
 {
-    let d = cell::separation(p, q);
-    let by = level.by;
     if level.x & (level.y & level.z) {
-        return cell::magnitude_squared(cell::separation(by, d)) <= cutoff * cutoff;
+        let by = level.by;
+        return cell::magnitude_squared(cell::separation(by, cell::separation(p, q)))
+            <= cutoff * cutoff;
     }
-    let image = Vec3 {
-        x: image_on(level.x, by.x, d.x, e.x),
-        y: image_on(level.y, by.y, d.y, e.y),
-        z: image_on(level.z, by.z, d.z, e.z),
-    };
-    cell::magnitude_squared(image) <= cutoff * cutoff
+    near_by(cutoff, e, p, q)
 }
 
 // ---- two copies
@@ -206,7 +216,7 @@ pub fn lists_touch(
     found
 }
 
-// ---- the box of one copy
+// ---- the box of one copy, and the ends of the other, an axis at a time
 
 // The box of some picks.
 pub fn span_of(xs: &[f32], a: &[u32]) -> Span
@@ -229,6 +239,72 @@ pub fn span_of(xs: &[f32], a: &[u32]) -> Span
             z: z.hi,
         },
     }
+}
+
+// Whether the screen keeps the box s and the box of the picks b apart. An axis is worked out only where those before it do not decide.
+fn spans_apart(g: Screen, xs: &[f32], b: &[u32], s: Span) -> bool
+    requires b_nonzero { 0 < length b.now }
+    requires by_index { (k : ℕ) → k < length b.now → get_or b.now k 0 * 3 + 2 < length xs.now }
+    ensures { result ≡ apart_screen g s (span_of xs.now b.now) }
+{
+    let x = ends_of(xs, b, 0);
+    if gates::rejects(
+        g.wide,
+        g.cutoff,
+        g.e.x,
+        g.g.x,
+        x.lo - s.high.x,
+        x.hi - s.low.x,
+    ) {
+        return true;
+    }
+    let y = ends_of(xs, b, 1);
+    if gates::rejects(
+        g.wide,
+        g.cutoff,
+        g.e.y,
+        g.g.y,
+        y.lo - s.high.y,
+        y.hi - s.low.y,
+    ) {
+        return true;
+    }
+    let z = ends_of(xs, b, 2);
+    gates::rejects(
+        g.wide,
+        g.cutoff,
+        g.e.z,
+        g.g.z,
+        z.lo - s.high.z,
+        z.hi - s.low.z,
+    )
+}
+
+// Whether the screen keeps the box s and the box of copy j of sound pick lists apart.
+fn row_apart(g: Screen, xs: &[f32], starts: &[u32], picks: &[u32], s: Span, j: usize) -> bool
+    requires picks_value { sound_lists xs.now starts.now picks.now ≡ true }
+    requires j_bound { j < copies starts.now }
+    ensures { result ≡ apart_from g xs.now starts.now picks.now s j }
+{
+    spans_apart(g, xs, pick_lists::copy_picks(starts, picks, j), s)
+}
+
+// The first copy from j on that the screen does not keep apart from the box s, or the number of copies. A loop of its own, so that what follows such a
+// copy takes none of its registers.
+pub fn next_close(g: Screen, xs: &[f32], starts: &[u32], picks: &[u32], s: Span, j: usize) -> usize
+    requires picks_value { sound_lists xs.now starts.now picks.now ≡ true }
+    requires j_bound { j ≤ copies starts.now }
+    ensures { result ≡ first_past (apart_from g xs.now starts.now picks.now s) (copies starts.now - j) j }
+{
+    let n = starts.len() - 1;
+    let mut k = j;
+    while k < n {
+        if !row_apart(g, xs, starts, picks, s, k) {
+            return k;
+        }
+        k += 1;
+    }
+    n
 }
 
 // The box of copy j of sound pick lists.

@@ -2,7 +2,7 @@
 use mathlib.Core.Path.{sym, ap, ◌∙◌}
 use mathlib.Core.Logic.{⊎_elim}
 use mathlib.Core.List.{List, []}
-use Prim.Native.Nat.{ℕ, ◌+◌, ◌-◌}
+use Prim.Native.Nat.{ℕ, ◌-◌}
 use native.Mathlib.Omega.{arith}
 use lib.ListN.{get_or}
 use Rattle.pick_lists.specs.Input.{given}
@@ -17,7 +17,7 @@ use Rattle.scan.proofs.scan_boxed.Statement.{statement}
 use Rattle.scan.proofs.scan_boxed.Tie as tie
 
 abbrev invariant-loop : tie.invariant-loop
-invariant-loop cell cutoff solutes starts picks room flags table₀ i n k₀ table k = Run (copies_touch (given cell solutes [] starts picks) cutoff) n i (i + 1) table₀ table k
+invariant-loop cell cutoff solutes starts picks room flags table₀ i n k₀ table k = Run (copies_touch (given cell solutes [] starts picks) cutoff) n i table₀ table k
 
 abbrev decreases-loop : tie.decreases-loop
 decreases-loop cell cutoff solutes starts picks room flags table₀ i n k₀ table k = n - k

@@ -13,7 +13,7 @@ use Rattle.span_table.proofs.fill_axis.Statement.{statement}
 use Rattle.span_table.proofs.fill_axis.Tie as tie
 
 abbrev invariant-loop : tie.invariant-loop
-invariant-loop xs starts picks table₀ at axis n i₀ table i = Filled (λ m. Unit {0}) (λ m. least_of xs axis (pick_list starts picks m)) (λ m. greatest_of xs axis (pick_list starts picks m)) at n table₀ i table
+invariant-loop xs starts picks table₀ at axis n i₀ table i = Filled (λ m. least_of xs axis (pick_list starts picks m)) (λ m. greatest_of xs axis (pick_list starts picks m)) at n table₀ i table
 
 abbrev decreases-loop : tie.decreases-loop
 decreases-loop xs starts picks table₀ at axis n i₀ table i = n - i
@@ -26,7 +26,7 @@ sub-n : tie.Need-overflow-sub-n invariant-loop decreases-loop
 sub-n c = omega (arith, (sound-lists _ _ _ (start c).requires.0).number)
 
 loop-holds : tie.Need-loop-init invariant-loop decreases-loop
-loop-holds c = filled_none _ _ _ _ _ _
+loop-holds c = filled_none _ _ _ _ _
 
 copy-picks-requires : tie.Need-copy-picks-requires invariant-loop decreases-loop
 copy-picks-requires c κs = let st = start c.before.before in copy-part _ _ _ (sound-lists _ _ _ st.pre.0) _ c.loop-test.true
@@ -48,7 +48,7 @@ loop-again : tie.Need-loop-preserved invariant-loop decreases-loop
 loop-again c =
     let turn = c.before.before in
     let st = start turn.before.before in
-    filled_next _ _ _ _ _ _ _ _ _ _ st.pre.1.1 turn.loop-test.true
+    filled_next _ _ _ _ _ _ _ _ _ st.pre.1.1 turn.loop-test.true
     (c.ends_of.ensures.0 ∙ ap (least_of st.args.xs.now st.args.axis) c.before.copy-picks.ensures)
     (c.ends_of.ensures.1 ∙ ap (greatest_of st.args.xs.now st.args.axis) c.before.copy-picks.ensures)
     turn.before.loop.invariant
@@ -59,7 +59,7 @@ same_length c = c.before.loop.invariant.same
 returns : tie.Need-returns invariant-loop decreases-loop
 returns c =
     let f = c.before.loop.invariant in
-    (λ m l. f.least m (omega (arith, f.most)) tt, (λ m l. f.greatest m (omega (arith, f.most)) tt, (f.before, f.past)))
+    (λ m l. f.least m (omega (arith, f.most)), (λ m l. f.greatest m (omega (arith, f.most)), (f.before, f.past)))
 
 pub fill-axis-spec : {M : Type 1} → statement M
 fill-axis-spec =

@@ -27,7 +27,7 @@ loop-again : tie.Need-loop-preserved invariant-loop decreases-loop
 loop-again c =
     let turn = c.before.before.before in
     let at = turn.before in
-    let flag = c.raised.ensures ∙ ap (λ (b : Bool). cond b 1 0) (c.before.kept-apart.ensures ∙ ap₂ (λ (b d : Span). apart_marks (start at.before).args.g b d) at.before.span-at.ensures c.before.before.span-at2.ensures) in
+    let flag = c.word.ensures ∙ ap (λ (b : Bool). cond b 1 0) (c.before.kept-apart.ensures ∙ ap₂ (λ (b d : Span). apart_marks (start at.before).args.g b d) at.before.span-at.ensures c.before.before.span-at2.ensures) in
     marked_next _ _ _ _ _ _ _ _ turn.loop-test.true flag at.loop.invariant
 
 same_length : tie.Need-same-length invariant-loop decreases-loop

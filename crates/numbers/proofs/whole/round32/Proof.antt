@@ -3,7 +3,7 @@
 use Rattle.std.proofs.Common.{◌≡◌, not, T, sym, ap, ◌∙◌, subst, ⊎_elim, rules}
 use lib.Ieee.{Float, binary32, neg, add, sub, mul, lt, fits, of_bits}
 use Rattle.floats.proofs.Tests.{holds, fails}
-use Rattle.floats.proofs.WholeSizes.{zero32}
+use Rattle.floats.proofs.SizeTests.{zero32}
 use Rattle.floats.proofs.WholeBySum.{limit, to_even, to_away, size_of, opposite, round-by-sum, round-stays}
 use Rattle.numbers.proofs.whole.round32.Statement.{statement}
 use Rattle.numbers.proofs.whole.round32.Tie as tie

@@ -4,10 +4,10 @@ use mathlib.Core.Bool.{Bool, true, false, cond}
 use Prim.Native.Nat.{ℕ, zero, suc, ◌+◌, ◌-◌, ◌≤◌, ◌<◌}
 use native.Mathlib.Numerals.{add-one}
 use native.Mathlib.Omega.{arith}
-use Rattle.span_table.specs.Inner.{first_past}
+use Rattle.spans.specs.Inner.{first_past}
 
 -- the search never goes back
-past-least : (f : ℕ → Bool) (k j : ℕ) → j ≤ first_past f k j
+pub past-least : (f : ℕ → Bool) (k j : ℕ) → j ≤ first_past f k j
 unfolding first_past
 past-least f zero j = omega arith
 past-least f (suc k) j = by (f j) (past-least f k (suc j))
@@ -15,19 +15,6 @@ past-least f (suc k) j = by (f j) (past-least f k (suc j))
     by : (b : Bool) → suc j ≤ first_past f k (suc j) → j ≤ cond b (first_past f k (suc j)) j
     by true h = omega arith
     by false h = omega arith
-
--- and ends after the k numbers
-past-most : (f : ℕ → Bool) (k j : ℕ) → first_past f k j ≤ j + k
-unfolding first_past
-past-most f zero j = omega arith
-past-most f (suc k) j = by (f j) (past-most f k (suc j))
-  where
-    by : (b : Bool) → first_past f k (suc j) ≤ suc j + k → cond b (first_past f k (suc j)) j ≤ j + suc k
-    by true h = omega arith
-    by false h = omega arith
-
-pub past-range : (f : ℕ → Bool) (k j r : ℕ) → r ≡ first_past f k j → (j ≤ r) × (r ≤ j + k)
-past-range f k j r is = rw is (past-least f k j, past-most f k j)
 
 module _ (f : ℕ → Bool) (n k : ℕ) where
   past-step : k < n → first_past f (n - k) k ≡ cond (f k) (first_past f (n - (k + 1)) (k + 1)) k
