@@ -1,6 +1,5 @@
 -- What every crate's definitions rest on.
 -- a lent slice at the start of a call
-pub mod Entry
 -- the limits on numbers
 pub mod Limits
 -- tables after a call

@@ -13,7 +13,7 @@ pub const MAX_COPIES: usize = 4096;
 pub const MAX_PICKS: usize = 65536;
 
 // What a call answers that writes tables alone: acceptance, or a refusal by its number.
-#[derive(Drop)]
+#[derive(Clone, Copy)]
 pub enum Answer {
     Accepted,
     Refused(u32),

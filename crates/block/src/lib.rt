@@ -15,7 +15,7 @@ const HEADER: usize = 46;
 
 // What the reader answers: a refusal by its number, or a frame's atoms per copy, its numbers of solute atoms, indices and
 // waters, and its cell.
-#[derive(Drop)]
+#[derive(Clone, Copy)]
 pub enum Block {
     Refused(u32),
     Frame {

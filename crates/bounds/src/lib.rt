@@ -8,7 +8,7 @@ use cell::{Cell, Vec3};
 // A box is split only where its widest side is over this.
 const LEAST_WIDTH: f32 = 0.75;
 
-#[derive(Drop)]
+#[derive(Clone, Copy)]
 pub struct OctreeBounds {
     pub low: Vec3,
     pub high: Vec3,

@@ -14,14 +14,14 @@ pub const EPSILON: f32 = 1.1920929e-7;
 // The longest reach.
 pub const MAX_REACH: f32 = 16.0;
 
-#[derive(Drop)]
+#[derive(Clone, Copy)]
 pub struct Vec3 {
     pub x: f32,
     pub y: f32,
     pub z: f32,
 }
 
-#[derive(Drop)]
+#[derive(Clone, Copy)]
 pub struct Cell {
     pub low: Vec3,
     pub high: Vec3,
@@ -60,7 +60,7 @@ fn wrap_axis(p: f32, low: f32, e: f32) -> f32
 }
 
 // A number that was found without a division, and whether it is sure to be the one asked for; if not, it says nothing.
-#[derive(Drop)]
+#[derive(Clone, Copy)]
 pub struct Folded {
     pub sure: bool,
     pub value: f32,

@@ -15,7 +15,7 @@ ghost use Rattle.cluster_table.specs.Fractions.{ratio, table_fractions};
 pub const HEADER: usize = 3;
 
 // The three fractions of a table.
-#[derive(Drop)]
+#[derive(Clone, Copy)]
 pub struct ClusterFractions {
     pub largest: f32,
     pub contacted: f32,

@@ -15,7 +15,7 @@ use cell::Cell;
 use cluster_table::HEADER;
 
 // What Close answers: the largest, contacted and pair fractions.
-#[derive(Drop)]
+#[derive(Clone, Copy)]
 pub enum Closing {
     Fractions(f32, f32, f32),
     Refused(u32),

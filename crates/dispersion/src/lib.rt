@@ -13,7 +13,7 @@ ghost use Rattle.dispersion.specs.Dispersion.{clamped, expected_of, row_sum, pai
 use cell::{Cell, EPSILON, Vec3};
 
 // What Dispersion answers: the score, 0 to 1, or a refusal by its number.
-#[derive(Drop)]
+#[derive(Clone, Copy)]
 pub enum Dispersed {
     Score(f32),
     Refused(u32),

@@ -67,12 +67,15 @@ same false false f g = refl
 
 and-true : (a b : Bool) → T a → T b → T (a && b)
 and-true true b p q = q
+and-true false b p q = elim p [ ]
 
 and_first : (a b : Bool) → T (a && b) → T a
 and_first true b p = tt
+and_first false b p = elim p [ ]
 
 and_second : (a b : Bool) → T (a && b) → T b
 and_second true b p = p
+and_second false b p = elim p [ ]
 
 module _ (x h : Float) where
   at_most : (t : Bool) → (T t → T (lt x (neg x))) → (T (not t) → T (not (lt x (neg x)))) → T (le (cond t (neg x) x) h) → T (le x h && le (neg h) x)

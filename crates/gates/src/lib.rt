@@ -11,13 +11,13 @@ use cell::{Cell, Vec3};
 use numbers::order::larger;
 
 // The separations that one axis rejects: from r to u, and from -u to -r; none where u is below r.
-#[derive(Drop)]
+#[derive(Clone, Copy)]
 pub struct Gate {
     pub r: f32,
     pub u: f32,
 }
 
-#[derive(Drop)]
+#[derive(Clone, Copy)]
 pub struct Gates {
     pub x: Gate,
     pub y: Gate,
@@ -142,7 +142,7 @@ fn far_ends(cutoff: f32, e: f32, lo: f32, hi: f32) -> bool
 }
 
 // How the copies of a row are told apart: by the gates, or, where some stand over an extent away, by images.
-#[derive(Drop)]
+#[derive(Clone, Copy)]
 pub struct Screen {
     pub wide: bool,
     pub cutoff: f32,
@@ -193,7 +193,7 @@ pub fn rejects(wide: bool, cutoff: f32, e: f32, g: Gate, lo: f32, hi: f32) -> bo
 // ---- the test by the gates of many turns, for loops without a branch
 
 // An axis whose first `top` turns have gates.
-#[derive(Drop)]
+#[derive(Clone, Copy)]
 pub struct AxisTurns {
     pub e: f32,
     pub inverse: f32,
@@ -201,7 +201,7 @@ pub struct AxisTurns {
     pub top: u32,
 }
 
-#[derive(Drop)]
+#[derive(Clone, Copy)]
 pub struct TurnGates {
     pub x: AxisTurns,
     pub y: AxisTurns,

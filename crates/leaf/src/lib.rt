@@ -14,7 +14,7 @@ use cell::{Cell, EPSILON, Vec3};
 use numbers::order::{larger, smaller};
 
 // How wet a box is: dry (no water seen), or observed waters over expected ones.
-#[derive(Drop)]
+#[derive(Clone, Copy)]
 pub enum Occupancy {
     Dry,
     Ratio(f32),
@@ -65,7 +65,7 @@ fn in_shell(cell: Cell, b: OctreeBounds, w: Vec3) -> bool
 }
 
 // Whether a water is in a shell, found without a division, and whether that is sure.
-#[derive(Drop)]
+#[derive(Clone, Copy)]
 struct Seen {
     sure: bool,
     inside: bool,
@@ -90,7 +90,7 @@ fn fold_in_shell(cell: Cell, b: OctreeBounds, w: Vec3) -> Seen
 }
 
 // How many waters are in a shell, found without a division, and whether that is sure.
-#[derive(Drop)]
+#[derive(Clone, Copy)]
 struct Counted {
     sure: bool,
     waters: u32,

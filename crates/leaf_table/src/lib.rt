@@ -12,7 +12,7 @@ use bounds::OctreeBounds;
 use cell::Cell;
 
 // How many leaves are reported, and how many of them have no water in their own box.
-#[derive(Drop)]
+#[derive(Clone, Copy)]
 pub struct Counts {
     pub reported: usize,
     pub dry: usize,

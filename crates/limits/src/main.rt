@@ -9,7 +9,7 @@ use libc::STDOUT_FILENO;
 use selection::Selected;
 
 // Five numbers, those that a kind of case does not use 0, and the expected answer.
-#[derive(Drop)]
+#[derive(Clone, Copy)]
 struct Case(usize, usize, usize, usize, usize, usize);
 
 // From row 0, Select: coordinates, atoms per copy, indices, starts lent, picks lent. From row 16, the bits of one coordinate of an atom,

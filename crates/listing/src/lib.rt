@@ -10,7 +10,7 @@ mod sizes;
 mod lines;
 
 // What a call answers: the number of bytes written, or a refusal by its number.
-#[derive(Drop)]
+#[derive(Clone, Copy)]
 pub enum Listed {
     Written(usize),
     Refused(u32),

@@ -11,7 +11,7 @@ use report::Reported;
 
 // What the whole frame answers: a refusal by its number, blank (zeros in all four fractions), or the answers of Select, Close,
 // Dispersion and Report.
-#[derive(Drop)]
+#[derive(Clone, Copy)]
 pub enum FrameAnswer {
     Refused(u32),
     Blank,

@@ -4,7 +4,7 @@
 pub mod build;
 
 // What building answers: the number of nodes and the greatest depth, or that the node tables are too small (13).
-#[derive(Drop)]
+#[derive(Clone, Copy)]
 pub enum Built {
     Nodes(usize, usize),
     Full,

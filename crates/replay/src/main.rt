@@ -64,7 +64,7 @@ fn agrees(block: &[u8], recorded: &[u8]) -> bool {
 }
 
 // A record: the bytes that it takes up, 0 where the file is cut off in it, and whether it agrees.
-#[derive(Drop)]
+#[derive(Clone, Copy)]
 struct Replayed {
     used: usize,
     agrees: bool,
@@ -77,7 +77,7 @@ const CUT: Replayed = Replayed {
 
 // The first record of the rest of the file.
 fn record(rest: &[u8]) -> Replayed
-    ensures { result.used ≤ length (old rest) }
+    ensures { result.used ≤ length rest.now }
 {
     if rest.len() < 4 {
         return CUT;

@@ -15,7 +15,7 @@ use cell::Cell;
 use octree::Built;
 
 // What Report answers: nodes, greatest depth, reported leaves and dry leaves, or a refusal by its number.
-#[derive(Drop)]
+#[derive(Clone, Copy)]
 pub enum Reported {
     Leaves(usize, usize, usize, usize),
     Refused(u32),

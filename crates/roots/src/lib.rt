@@ -31,7 +31,7 @@ fn root(m: u64, n: u64) -> u64
 }
 
 // A rounded root by its fields: digits * 2^exponent, the leading digit among the digits.
-#[derive(Drop)]
+#[derive(Clone, Copy)]
 struct RootFields {
     exponent: u64,
     digits: u64,

@@ -10,14 +10,14 @@ ghost use Rattle.selection.specs.Selection.{finite_atoms, indexed, picked, kept_
 use base::{MAX_COPIES, MAX_INDICES, MAX_PICKS};
 
 // What Select answers: a refusal by its number, or the kept copies and the picks.
-#[derive(Drop)]
+#[derive(Clone, Copy)]
 pub enum Selected {
     Refused(u32),
     Kept { copies: usize, picks: usize },
 }
 
 // How many copies are kept, and how many atoms are picked in them.
-#[derive(Drop)]
+#[derive(Clone, Copy)]
 pub struct Counted {
     pub copies: usize,
     pub picks: usize,

@@ -78,7 +78,7 @@ fn word(b: bool) -> u32
 }
 
 // How the copies of a frame are told apart: by gates, or, where some stand over an extent apart, by the gates of many turns.
-#[derive(Drop)]
+#[derive(Clone, Copy)]
 pub struct Marks {
     pub wide: bool,
     pub g: Gates,

@@ -24,7 +24,7 @@ fn coordinate(xs: &[f32], p: u32, axis: usize) -> f32
 }
 
 // What lies from lo to hi.
-#[derive(Drop)]
+#[derive(Clone, Copy)]
 pub struct Ends {
     pub lo: f32,
     pub hi: f32,
@@ -50,7 +50,7 @@ pub fn ends_of(xs: &[f32], a: &[u32], axis: usize) -> Ends
 
 // ---- two boxes
 
-#[derive(Drop)]
+#[derive(Clone, Copy)]
 pub struct Span {
     pub low: Vec3,
     pub high: Vec3,
@@ -87,7 +87,7 @@ pub fn outside(e: Vec3, b: Span, c: Span) -> bool
 
 // On the axes x, y, z where it holds, every separation from one box to the other takes off the same number of extents: its image is the separation less
 // `by`.
-#[derive(Drop)]
+#[derive(Clone, Copy)]
 pub struct Level {
     pub x: bool,
     pub y: bool,

@@ -16,7 +16,7 @@ use cell::Cell;
 use octree::Built;
 
 // What Tree answers: the number of nodes and the greatest depth, or a refusal by its number.
-#[derive(Drop)]
+#[derive(Clone, Copy)]
 pub enum TreeAnswer {
     Nodes(usize, usize),
     Refused(u32),

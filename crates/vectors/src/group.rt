@@ -6,7 +6,7 @@ use crate::operation::Operation;
 use crate::{line, print};
 
 // How many vectors agreed, of how many.
-#[derive(Drop)]
+#[derive(Clone, Copy)]
 struct Tally {
     agreed: u64,
     of: u64,

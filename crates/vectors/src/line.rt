@@ -2,7 +2,7 @@
 ghost use Rattle.std.specs.Prelude.{◌≤◌, length};
 
 // What a line holds.
-#[derive(Drop)]
+#[derive(Clone, Copy)]
 pub(crate) enum Line {
     // An argument and the result that it must give.
     Vector(u64, u64),
@@ -12,7 +12,7 @@ pub(crate) enum Line {
 }
 
 // A word of hexadecimal digits, or something else.
-#[derive(Drop)]
+#[derive(Clone, Copy)]
 enum Word {
     Bits(u64),
     Broken,

@@ -1,7 +1,7 @@
 // The operations under test, each from bits to bits.
 ghost use Rattle.std.specs.Prelude.{◌≤◌};
 
-#[derive(Drop)]
+#[derive(Clone, Copy)]
 pub(crate) enum Operation {
     Sqrt32,
     Sqrt64,
