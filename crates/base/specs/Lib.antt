@@ -1,5 +1,4 @@
 -- What every crate's definitions rest on.
--- a lent slice at the start of a call
 -- the limits on numbers
 pub mod Limits
 -- tables after a call
