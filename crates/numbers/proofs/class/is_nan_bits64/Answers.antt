@@ -3,11 +3,8 @@ use Rattle.std.proofs.Common.{ltb, sym, ap, ◌∙◌}
 use lib.Ieee.{binary64}
 use lib.Ieee.Bits.{nan_bits_above}
 use Rattle.floats.proofs.Patterns.{unsigned_is}
-use Rattle.numbers.proofs.class.is_nan_bits64.Statement.{statement}
-use Rattle.numbers.proofs.class.is_nan_bits64.Tie as tie
+use Rattle.numbers.proofs.class.is_nan_bits64.Goals as goal
 
-returns : tie.Need-returns
+pub returns : goal.returns
 returns c = ap (ltb 0x7ff0_0000_0000_0000) (unsigned_is binary64 c.args.b) ∙ sym (nan_bits_above binary64 c.args.b)
 
-pub is-nan-bits64-spec : {M : Type 1} → statement M
-is-nan-bits64-spec = tie.close (tie.spec returns)

@@ -4,11 +4,8 @@ use Rattle.std.proofs.Common.{ltb, sym, ap, ◌∙◌}
 use lib.Ieee.{binary32}
 use lib.Ieee.Bits.{nan_bits_above}
 use Rattle.floats.proofs.Patterns.{unsigned_is}
-use Rattle.numbers.proofs.class.is_nan_bits32.Statement.{statement}
-use Rattle.numbers.proofs.class.is_nan_bits32.Tie as tie
+use Rattle.numbers.proofs.class.is_nan_bits32.Goals as goal
 
-returns : tie.Need-returns
+pub returns : goal.returns
 returns c = ap (ltb 0x7f80_0000) (unsigned_is binary32 c.args.b) ∙ sym (nan_bits_above binary32 c.args.b)
 
-pub is-nan-bits32-spec : {M : Type 1} → statement M
-is-nan-bits32-spec = tie.close (tie.spec returns)
