@@ -1,6 +1,7 @@
 // The cell of a frame and the geometry in it (docs/RULES.md, 'Cell'): extent, validity, wrap, minimum image, squared
 // distance, volume, and the bounds of a reach (16). Lengths are in angstrom. Every f32 operation rounds once, left to right.
 #![tactic(auto)]
+
 ghost use Rattle.std.specs.Prelude.{◌≡◌, true, cond, ◌+◌, ◌*◌, ◌<◌, length};
 ghost use Rattle.std.specs.Float.{binary32};
 ghost use Rattle.std.specs.Float.Ieee.{of_bits};

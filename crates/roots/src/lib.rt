@@ -1,6 +1,7 @@
 // Square root, correctly rounded, at two widths. The bits are split into sign, exponent and fraction by shifts and masks,
 // the root is taken over whole numbers, one digit a turn, and the fields are put together again.
 #![tactic(auto)]
+
 ghost use Rattle.std.specs.Prelude.{◌≡◌, suc, ◌*◌, ◌/◌, ◌%◌, ◌^◌, ◌<◌, ◌≤◌};
 ghost use Rattle.std.specs.Float.{binary32, binary64};
 ghost use Rattle.std.specs.Float.Ieee.{of_bits, to_bits};

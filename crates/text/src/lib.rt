@@ -1,6 +1,7 @@
 // Words, numbers and floats as bytes in a lent buffer, each written with the byte after it. A piece is written from entry `at` on, and answers
 // where it ends.
 #![tactic(auto)]
+
 ghost use Rattle.std.specs.Prelude.{◌≡◌, ◌+◌, ◌<◌, ◌≤◌, length};
 ghost use Rattle.base.specs.Tables.{placed};
 ghost use Rattle.text.specs.Text.{glyph as glyph_of, digits, places, decimal, hex, hex_bits, occupancy, followed};

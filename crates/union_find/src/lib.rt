@@ -1,6 +1,7 @@
 // Union-find over a lent list of parents (docs/RULES.md, 'Clusters'; the Rust's `find_root` and `union_roots`): joins without rank,
 // chains shortened as the Rust does. The largest set takes a fixed multiple of n steps on any sound list, chains of depth n included.
 #![tactic(auto)]
+
 ghost use Rattle.std.specs.Prelude.{◌≡◌, true, ◌++◌, ℕ, ◌+◌, ◌<◌, ◌≤◌, length, get_or, drop};
 ghost use Rattle.base.specs.Limits.{max_copies};
 ghost use Rattle.union_find.specs.Parents.{root_of, compressed, joined, sound_parents, largest_set};

@@ -1,0 +1,12 @@
+-- `text::glyph` meets its contract, by the definition's two cases. Assumes nothing.
+use borrow.Author.Tests.{lt-ltb, le-ltb}
+use Rattle.text.specs.Text.{glyph}
+use Rattle.text.proofs.glyph.Goals as goal
+
+pub returns-then-d-lt10 : goal.returns-then-d-lt10
+unfolding glyph
+returns-then-d-lt10 c = rw (lt-ltb c.args.d 10 c.if-d-lt10.true)
+
+pub returns-else-d-lt10 : goal.returns-else-d-lt10
+unfolding glyph
+returns-else-d-lt10 c = rw (le-ltb c.args.d 10 c.if-d-lt10.false)
