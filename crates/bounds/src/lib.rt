@@ -1,5 +1,6 @@
 // Boxes (docs/RULES.md, 'Octree'): low, high, center and extent as floats, by value.
 #![tactic(auto)]
+
 ghost use Rattle.std.specs.Prelude.{◌≡◌, cond, eqb};
 ghost use Rattle.bounds.specs.Bounds.{box_between, cell_box, corner as corner_of, child_of, wide_box};
 

@@ -1,6 +1,7 @@
 // The limits of a frame (docs/RULES.md, 'Limits') and the refusals 1, 2, 3, 4 and 15. A call that takes no
 // waters or no indices hands over an empty list in their place.
 #![tactic(auto)]
+
 ghost use Rattle.std.specs.Prelude.{◌≡◌};
 ghost use Rattle.frame_limits.specs.Limits.{exceeds as exceeds_of, beyond as beyond_of, any, any_over, ragged as ragged_of, long as long_of, bound_over, limit_refusals, frame_refusals, max_coordinate};
 ghost use Rattle.base.specs.Refusals.{first_refusal};

@@ -1,6 +1,7 @@
 // Whether a list of parents is sound (docs/RULES.md, refusal 9): each parent below n, and each copy reaches its own root in n steps. The test takes
 // a fixed multiple of n steps on any list, cycles and chains of depth n included: a local array of 4,096 half words remembers what was seen.
 #![tactic(auto)]
+
 ghost use Rattle.std.specs.Prelude.{◌≡◌, true, ◌+◌, ◌<◌, ◌≤◌, length, get_or, ltb};
 ghost use Rattle.base.specs.Limits.{max_copies};
 ghost use Rattle.base.specs.Range.{all_below};
