@@ -1,5 +1,5 @@
 -- What is left to prove of `contacted`. Assumes nothing.
-use Prim.Native.Nat.{◌-◌, zero-le}
+use Prim.Native.Nat.{zero-le}
 use native.Mathlib.Omega.{arith}
 use borrow.Author.Tests.{lt-ltb, le-ltb}
 use Rattle.base.proofs.Ranges.{count_none, count-hit, count-miss, count-end}
@@ -12,8 +12,8 @@ loop-i-init c = (zero-le, zero-le, count_none _)
 pub loop-i-preserved : goal.loop-i-preserved
 loop-i-preserved c =
     elim c.if-table-n-gt0.branch [
-      then-table-n-gt0 w ↦ (omega arith, omega arith, count-hit _ _ _ _ c.loop-i.invariant.2 (lt-ltb _ _ w.if-table-n-gt0.true) w.k-is)
-    | else-table-n-gt0 w ↦ (omega arith, omega arith, count-miss _ _ _ _ c.loop-i.invariant.2 (le-ltb _ _ w.if-table-n-gt0.false) w.k-is)
+      | then-table-n-gt0 w ↦ (omega arith, omega arith, count-hit _ _ _ _ c.loop-i.invariant.2 (lt-ltb _ _ w.if-table-n-gt0.true) w.k-is)
+      | else-table-n-gt0 w ↦ (omega arith, omega arith, count-miss _ _ _ _ c.loop-i.invariant.2 (le-ltb _ _ w.if-table-n-gt0.false) w.k-is)
     ]
 
 pub returns : goal.returns

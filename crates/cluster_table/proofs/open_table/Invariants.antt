@@ -5,7 +5,7 @@ use mathlib.Core.List.{List}
 use Prim.Native.Nat.{ℕ, ◌+◌, ◌-◌, ◌≤◌}
 use lib.ListN.{length, drop}
 use Rattle.base.proofs.Filling.{Filling}
-use Rattle.cluster_table.specs.Table.{header, opened}
+use Rattle.cluster_table.specs.Table.{header}
 use Rattle.cluster_table.proofs.Fills.{whole}
 use Rattle.cluster_table.proofs.open_table.Given as goal
 
