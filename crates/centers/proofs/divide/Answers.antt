@@ -5,16 +5,12 @@ use native.Mathlib.Omega.{arith}
 use lib.Dec.{le→leb}
 use lib.Ieee.{in_float}
 use Rattle.centers.specs.Centers.{divided_by}
-use Rattle.centers.proofs.divide.Statement.{statement}
-use Rattle.centers.proofs.divide.Tie as tie
+use Rattle.centers.proofs.divide.Goals as goal
 
-int-to-float-d : tie.Need-int-to-float-d
+pub int_to_float-d : goal.int_to_float-d
 unfolding in_float
-int-to-float-d c = le→leb c.before.args.n (2 ^ 24) (omega arith)
+int_to_float-d c = le→leb c.args.n (2 ^ 24) (omega arith)
 
-returns : tie.Need-returns
+pub returns : goal.returns
 unfolding divided_by
 returns c = refl
-
-pub divide-spec : {M : Type 1} → statement M
-divide-spec = tie.close (tie.spec int-to-float-d returns)
