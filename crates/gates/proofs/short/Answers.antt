@@ -2,12 +2,8 @@
 use mathlib.Core.Path.{refl}
 use lib.Ieee.{le}
 use Rattle.gates.specs.Inner.{short}
-use Rattle.gates.proofs.short.Statement.{statement}
-use Rattle.gates.proofs.short.Tie as tie
+use Rattle.gates.proofs.short.Goals as goal
 
-returns : tie.Need-returns
+pub returns : goal.returns
 unfolding le short
 returns c = refl
-
-pub short-spec : {M : Type 1} → statement M
-short-spec = tie.close (tie.spec returns)

@@ -6,9 +6,7 @@ use Rattle.floats.specs.Constants.{zero32}
 use Rattle.cell.specs.Cell.{image_axis}
 use Rattle.touch.specs.Touch.{cutoff2}
 use Rattle.gates.specs.Inner.{turns_of, clear_right, clear_left}
-use borrow.Author.Rules.{rules}
-use Rattle.gates.proofs.clear.Statement.{statement}
-use Rattle.gates.proofs.clear.Tie as tie
+use Rattle.gates.proofs.clear.Goals as goal
 
 either_side : (a b c : Bool) → ((a || b) && c) ≡ ((a && c) || (b && c))
 either_side true true true = refl
@@ -21,11 +19,8 @@ of_image : (k d e a : Float) → a ≡ image_axis d e → ((lt zero32 a || lt a 
 unfolding clear_right clear_left cutoff2
 of_image k d e a is = rw is (either_side (lt zero32 (image_axis d e)) (lt (image_axis d e) zero32) (lt (mul binary32 k k) (mul binary32 (image_axis d e) (image_axis d e))))
 
-returns : tie.Need-returns
+pub returns : goal.returns
 unfolding image_axis turns_of
 returns c =
-    let a = c.before.args in
+    let a = c.args in
     of_image a.cutoff a.d a.e _ (ap (λ (t : Float). sub binary32 a.d (mul binary32 a.e t)) c.turns.ensures)
-
-pub clear_spec : {M : Type 1} → statement M
-clear_spec = tie.close (tie.spec (λ c κs. search rules) returns)
