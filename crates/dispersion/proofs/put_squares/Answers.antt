@@ -1,8 +1,6 @@
 -- What is left to prove of `put_squares`. Assumes nothing.
-use Prim.Native.Nat.{◌-◌}
 use native.Mathlib.Omega.{arith}
 use mathlib.Core.Path.{ap₂, ◌∙◌}
-use mathlib.Core.Bool.{true}
 use lib.ListN.{length-set}
 use borrow.Author.Rules.{rules}
 use Rattle.floats.proofs.Tests.{both}

@@ -1,5 +1,4 @@
 -- What is left to prove of `row_sum`. Assumes nothing.
-use Prim.Native.Nat.{◌-◌}
 use mathlib.Core.Path.{sym, ◌∙◌}
 use borrow.Author.Rules.{rules}
 use Rattle.dispersion.proofs.Sums.{row_block}

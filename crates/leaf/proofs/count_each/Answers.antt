@@ -1,7 +1,5 @@
 -- What is left to prove of `count_each`. Assumes nothing.
 use mathlib.Core.Path.{sym, ap, ◌∙◌}
-use mathlib.Core.Logic.{⊎_elim}
-use Prim.Native.Nat.{◌-◌}
 use Rattle.leaf.specs.Leaf.{in_shell}
 use Rattle.leaf.proofs.ShellCount.{seeing-first, seeing-in, seeing-out, seeing-last}
 use Rattle.leaf.proofs.count_each.Goals as goal

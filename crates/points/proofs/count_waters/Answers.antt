@@ -1,7 +1,5 @@
 -- What is left to prove of `count_waters`. Assumes nothing.
 use mathlib.Core.Path.{sym, ap, ◌∙◌}
-use mathlib.Core.Logic.{⊎_elim}
-use Prim.Native.Nat.{◌-◌}
 use Rattle.cell.specs.Cell.{finite_point}
 use Rattle.points.proofs.WaterList.{counting-first, counting-finite, counting-other, counting-last}
 use Rattle.points.proofs.count_waters.Goals as goal

@@ -1,5 +1,4 @@
 -- What is left to prove of `wrap_all`. Assumes nothing.
-use Prim.Native.Nat.{◌-◌}
 use native.Mathlib.Omega.{arith}
 use lib.ListN.{length-set}
 use Rattle.points.proofs.Wrapping.{wrapping-first, wrapping-next, wrapping-last}

@@ -1,7 +1,5 @@
 -- What is left to prove of `count`. Assumes nothing.
 use mathlib.Core.Path.{refl, ap}
-use mathlib.Core.Logic.{⊎_elim}
-use Prim.Native.Nat.{◌-◌}
 use native.Mathlib.Omega.{arith}
 use lib.ListN.{length}
 use Rattle.selection.specs.Selection.{picks_of}

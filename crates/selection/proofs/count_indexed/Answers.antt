@@ -1,7 +1,6 @@
 -- What is left to prove of `count_indexed`. Assumes nothing.
 use mathlib.Core.Path.{ap, sym, ◌∙◌}
-use mathlib.Core.Logic.{⊎_elim}
-use Prim.Native.Nat.{◌<◌, ◌-◌}
+use Prim.Native.Nat.{◌<◌}
 use native.Mathlib.Omega.{arith}
 use lib.ListN.{length}
 use Rattle.selection.proofs.Picked.{indexed-hit, indexed-skip, indexed-none}
