@@ -1,5 +1,5 @@
 // A group of vectors: a file, and the operation that it is about.
-ghost use Rattle.std.specs.Prelude.{◌≡◌, ◌+◌, ◌≤◌, ◌<◌, length};
+ghost use Rattle.std.specs.Prelude.{◌≡◌, ◌+◌, ◌≤◌, ◌<◌, length, IfOk};
 
 use crate::line::Line;
 use crate::operation::Operation;
