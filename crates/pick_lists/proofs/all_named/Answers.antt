@@ -1,5 +1,4 @@
 -- What is left to prove of `all_named`. Assumes nothing.
-use Prim.Native.Nat.{◌-◌}
 use mathlib.Core.Path.{refl, sym, ap, ◌∙◌}
 use mathlib.Core.Bool.{Bool, ◌&&◌, and-true}
 use borrow.Author.Rules.{rules}

@@ -1,9 +1,7 @@
 -- What is left to prove of `each_finite`. Assumes nothing.
-use Prim.Native.Nat.{◌-◌}
 use mathlib.Core.Path.{refl, sym, ◌∙◌}
 use native.Mathlib.Omega.{arith}
 use borrow.Author.Rules.{rules}
-use borrow.Author.Tests.{not-true, not-false}
 use Rattle.pick_lists.proofs.SoundLists.{finite-hit, finite-skip, finite-none}
 use Rattle.pick_lists.proofs.each_finite.Goals as goal
 

@@ -1,5 +1,4 @@
 -- `pick_lists::is_sound` meets its contract: both tests, one after the other, are the definition. Assumes nothing.
-use borrow.Author.Tests.{not-true, not-false}
 use Rattle.pick_lists.specs.Sound.{sound_lists}
 use Rattle.pick_lists.proofs.is_sound.Goals as goal
 

@@ -14,6 +14,8 @@ put_indexed-end-requires c =
     let a = c.args in
     record { per_in_bounds = c.requires.per_in_bounds; indices_in_bounds = omega (arith, indexed-within a.xs.now a.per a.base a.indices.now) }
 
+-- where the indices picked something, those are the copy's picks,
+-- and all of them are written
 pub returns-then-end-at : goal.returns-then-end-at
 returns-then-end-at c =
     let a = c.args in

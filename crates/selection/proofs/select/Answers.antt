@@ -18,6 +18,8 @@ count-n-requires c =
     let a = c.args in
     list-none a.solutes.now a.indices.now (sym c.list_refusal-unfit.ensures ∙ c.if-unfit-ne0.false)
 
+-- a refusal for want of room is the answer,
+-- and no table is changed
 pub returns-then-crowded-ne0 : goal.returns-then-crowded-ne0
 returns-then-crowded-ne0 c =
     let a = c.args in
