@@ -1,6 +1,7 @@
 // Whether a node splits, and its two order lists divided (docs/RULES.md, 'Octree'): arranged by octant, each octant's points counted.
 // `divide` tests nothing of its lists; its caller does.
 #![tactic(auto)]
+
 ghost use Rattle.std.specs.Prelude.{◌≡◌, ◌≤◌, ◌<◌, ◌-◌, length};
 ghost use Rattle.octants.specs.Inner.{Sortable};
 ghost use Rattle.division.specs.Split.{max_depth};

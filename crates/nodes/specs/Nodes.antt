@@ -1,6 +1,6 @@
 -- docs/RULES.md, 'Octree': a node, its record and its box; the node tables of a list of nodes, and the order lists as they start.
 -- Definitions only. Assumes nothing.
-use Rattle.std.specs.Prelude.{List, [], ◌∷◌, ◌++◌, ℕ, ◌+◌, max, Float}
+use Rattle.std.specs.Prelude.{List, [], ◌∷◌, ◌++◌, ℕ, max, Float}
 use Rattle.bounds.specs.declared.OctreeBounds.{OctreeBounds}
 
 pub record Node : Type 0 where

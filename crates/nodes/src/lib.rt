@@ -1,5 +1,6 @@
 // A tree's nodes in lent tables (docs/RULES.md, 'Octree'): a node's record and box, and fresh tables.
 #![tactic(auto)]
+
 ghost use Rattle.std.specs.Prelude.{◌≡◌, [], ◌∷◌, ◌≤◌, ◌<◌, ◌*◌, length, replicate};
 ghost use Rattle.floats.specs.Constants.{zero32};
 ghost use Rattle.base.specs.Limits.{max_atoms};

@@ -1,6 +1,7 @@
 // The octant of a point, and stable splitting of an order list by octant (docs/RULES.md, 'Octree'): a counting sort, linear in the points.
 // `arrange` tests nothing of its lists; its callers do.
 #![tactic(auto)]
+
 ghost use Rattle.std.specs.Prelude.{◌≡◌, ℕ, ◌≤◌, ◌<◌, length, take, get_or, replicate};
 ghost use Rattle.base.specs.Limits.{max_atoms};
 ghost use Rattle.bounds.specs.Bounds.{above_of, octant_at};

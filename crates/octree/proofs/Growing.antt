@@ -4,16 +4,13 @@ use mathlib.Core.List.{List, [], ◌∷◌, ◌++◌, append_assoc}
 use Prim.Native.Nat.{ℕ, suc, ◌+◌, ◌-◌, ◌*◌, ◌≤◌, ◌<◌, max}
 use native.Mathlib.Nat.{add-zero}
 use native.Mathlib.Omega.{arith}
-use lib.ListN.{length, length-append}
+use lib.ListN.{length, get_or, length-append}
 use lib.Ieee.{Float}
-use Rattle.base.specs.Limits.{max_atoms}
 use Rattle.base.specs.Tables.{placed}
-use Rattle.cell.specs.declared.Vec3.{Vec3}
 use Rattle.bounds.specs.declared.OctreeBounds.{OctreeBounds}
 use Rattle.octree.specs.declared.Built.{Built}
 use Rattle.bounds.specs.Bounds.{child_of}
 use Rattle.octants.specs.Octants.{octant_points}
-use Rattle.division.specs.Split.{max_depth}
 use Rattle.octree.specs.Tree.{Subtrees, Builder, none, join, where_some, children_from}
 use Rattle.nodes.specs.Nodes.{deepest, records_of, boxes_of}
 use Rattle.octants.specs.Inner.{lists_from, by_octant}
@@ -91,24 +88,6 @@ pub record Growing (S : Site) (T : Turn) : Type 0 where
   pub corners : T.box ≡ placed ((S.at + 1) * 6) (boxes_of done.nodes) S.box₀
   pub within : T.next ≤ S.room
 
--- lists that `divide` made to cs and ws, for a node that visits r octants
-pub record Origin (C W : List Float) (c : Vec3) (r : ℕ) (cs ws nc nw : List ℕ) : Type 0 where
-  pub cs₀ : List ℕ
-  pub ws₀ : List ℕ
-  pub was-c : Divided C c r cs₀ cs nc
-  pub was-w : Divided W c r ws₀ ws nw
-
--- the lengths as where the loop began, and how many turns are left; s and k are the scratch lists
-pub record Sizes (turns : ℕ) (T : Turn) (cs ws rec : List ℕ) (box : List Float) (s₀ s k₀ k : List ℕ) : Type 0 where
-  pub same-c : length T.cs ≡ length cs
-  pub same_w : length T.ws ≡ length ws
-  pub same-r : length T.rec ≡ length rec
-  pub same-b : length T.box ≡ length box
-  pub same_s : length s ≡ length s₀
-  pub same-k : length k ≡ length k₀
-  pub turns-ok : T.kids + T.left ≤ 8
-  pub less : T.left ≤ turns
-
 -- ---- the first turn
 pub begin : (S : Site) (cs ws : List ℕ) → S.at + 1 ≤ S.room → cs ≡ later_c S S.turns → ws ≡ later_w S S.turns
     → Growing S (record { left = S.turns; next = S.at + 1; deep = S.depth; kids = 0; ca = 0; wa = 0; cs = cs; ws = ws; rec = S.rec₀; box = S.box₀ })
@@ -136,6 +115,17 @@ pub record Visited (S : Site) (T : Turn) (l o nc nw : ℕ) : Type 0 where
   pub octant-is : o ≡ 7 - l
   pub count-c : nc ≡ length (here_c S o)
   pub count-w : nw ≡ length (here_w S o)
+
+-- from what `divide` left of the lists and of the counts
+pub visited : {S : Site} {T : Turn} {cs ws nc nw : List ℕ} → Growing S T → Divided S.C S.b.center S.turns S.cs₀ cs nc → Divided S.W S.b.center S.turns S.ws₀ ws nw
+    → 0 < T.left → T.kids + T.left ≤ 8 → T.left ≤ S.turns → Visited S T (T.left - 1) (8 - T.left) (get_or nc (8 - T.left) 0) (get_or nw (8 - T.left) 0)
+visited {T = T} z c w h k l =
+    record {
+      one_less = omega arith;
+      octant-is = omega arith;
+      count-c = c.count (omega arith) (8 - T.left) (omega arith);
+      count-w = w.count (omega arith) (8 - T.left) (omega arith);
+    }
 
 lists-next : (f : ℕ → List ℕ) (left l o : ℕ) (t : List ℕ) → left ≡ suc l → o ≡ 7 - l → lists_from f left ++ t ≡ f o ++ (lists_from f l ++ t)
 unfolding lists_from
@@ -173,16 +163,6 @@ module _ (S : Site) (left l o at fc fw : ℕ) (e : left ≡ suc l) (k : o ≡ 7 
 length-zero : {A : Type 0} (l : List A) → length l ≡ 0 → l ≡ []
 length-zero [] e = refl
 length-zero (x ∷ l) e = absurd (let z : ◌≡◌ {A = ℕ} (suc (length l)) 0 = e in omega arith)
-
--- the numbers at that turn are small: lc and lw are the order lists' lengths
-pub record Bounded (depth fc fw ca wa nc nw lc lw kids left : ℕ) : Type 0 where
-  pub depth-ok : depth ≤ max_depth
-  pub stretch-c : ca + nc ≤ lc
-  pub stretch-w : wa + nw ≤ lw
-  pub few-c : fc + lc ≤ max_atoms
-  pub few-w : fw + lw ≤ max_atoms
-  pub few-kids : kids + left ≤ 8
-  pub some_left : 0 < left
 
 -- the subtree of the octant
 abbrev pub child_tree : (S : Site) (T : Turn) → ℕ → Subtrees

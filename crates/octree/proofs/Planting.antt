@@ -8,7 +8,8 @@ use native.Mathlib.Omega.{arith}
 use lib.ListN.{length}
 use lib.Ieee.{Float}
 use Rattle.base.specs.Tables.{placed}
-use Rattle.octree.specs.declared.Built as Built
+use Rattle.bounds.specs.declared.OctreeBounds.{OctreeBounds}
+use Rattle.bounds.specs.Bounds.{child_of}
 use Rattle.octree.specs.declared.Built.{Built}
 use Rattle.nodes.specs.Nodes.{Node, deepest, corners_of, records_of, boxes_of}
 use Rattle.octree.specs.Tree.{Subtrees, none, join, children_from, rooted}
@@ -16,7 +17,8 @@ use Rattle.octants.specs.Inner.{lists_from}
 use Rattle.octree.specs.Inner.{Filled, Planted}
 use Rattle.nodes.proofs.NodeTables.{eight, records-length, boxes-length}
 use Rattle.base.proofs.Placing.{placed-before}
-use Rattle.octree.proofs.Growing.{Site, Turn, Growing, whole_of, later_c, later_w}
+use Rattle.octree.proofs.Stretches.{stretch, child-points}
+use Rattle.octree.proofs.Growing.{Site, Turn, Growing, Visited, child_tree, next-c, next-w, whole_of, later_c, later_w}
 
 module _ (S : Site) (T : Turn) (z : Growing S T) (no-turn : T.left ≡ 0) (rr : S.room * 8 ≤ length S.rec₀) (rb : S.room * 6 ≤ length S.box₀) where
   last : join z.done (none (later_c S 0) (later_w S 0)) ≡ whole_of S
@@ -86,3 +88,11 @@ module _ (room : ℕ) (g : Subtrees) (at : ℕ) (r : Built) (cs ws rec₀ rec : 
 
   pub planted-at : (g' : Subtrees) → g ≡ g' → Planted room g at r cs ws rec₀ rec box₀ box → Planted room g' at r cs ws rec₀ rec box₀ box
   planted-at g' e p = subst (λ (u : Subtrees). Planted room u at r cs ws rec₀ rec box₀ box) e p
+
+-- of the subtree of an octant, where the child was asked for the box b' and for its stretches of the order lists
+pub planted : {S : Site} {T : Turn} (z : Growing S T) {l o nc nw : ℕ} (v : Visited S T l o nc nw) {r : Built} {zc zw rec' : List ℕ} {box' : List Float} {b' : OctreeBounds}
+    → b' ≡ child_of S.b o
+    → Planted S.room (S.go T.next (S.fc + T.ca) (S.fw + T.wa) b' (stretch T.ca nc T.cs) (stretch T.wa nw T.ws)) T.next r zc zw T.rec rec' T.box box'
+    → Planted S.room (child_tree S T o) T.next r zc zw T.rec rec' T.box box'
+planted {S} {T} z {o = o} v {r} {zc} {zw} {rec'} {box'} e p =
+    planted-at S.room _ T.next r zc zw T.rec rec' T.box box' (child_tree S T o) (cc (e, child-points (next-c z v), child-points (next-w z v))) p

@@ -5,7 +5,6 @@ use Rattle.base.specs.Limits.{max_atoms}
 use Rattle.base.specs.Tables.{placed}
 use Rattle.division.specs.Split.{max_depth}
 use Rattle.nodes.specs.Nodes.{deepest, records_of, boxes_of}
-use Rattle.octree.specs.declared.Built as Built
 use Rattle.octree.specs.declared.Built.{Built}
 use Rattle.octree.specs.declared.Built.TheVariants.{Nodes, Full}
 use Rattle.octree.specs.Tree.{Subtrees, room_refusal}

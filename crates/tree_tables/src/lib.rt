@@ -1,6 +1,7 @@
 // The whole tree of a frame in lent tables (docs/RULES.md, 'Octree' and 13): `build_tree` rearranges two order lists and fills two node tables; it
 // tests nothing, its caller does.
 #![tactic(auto)]
+
 ghost use Rattle.std.specs.Prelude.{◌≡◌, length};
 ghost use Rattle.octree.specs.Inner.{Numbered, tree_room, built_answer, built_number};
 ghost use Rattle.octree.specs.Tree.{tree_of, tree_tables, tables_after};
