@@ -1,7 +1,5 @@
 -- What is left to prove of `put_leaves`. Assumes nothing.
 use mathlib.Core.Path.{sym, ◌∙◌}
-use mathlib.Core.Logic.{⊎_elim}
-use Prim.Native.Nat.{◌-◌}
 use native.Mathlib.Omega.{arith}
 use Rattle.leaf_table.specs.Inner.{node_at}
 use Rattle.leaf_table.proofs.LeafList.{reporting-first, reporting-room, reporting-leaf, reporting-skip, reporting-last}
