@@ -1,7 +1,7 @@
-/* Baithrum from C: one frame of a simulated box of water, judged call by call. For x86-64 Linux. Link target/staticlib/libmixing_c.a, which
- * `rt staticlib mixing_c` writes; it asks for memcpy and memset and nothing else:
+/* Baithrum from C: one frame of a simulated box of water, judged call by call. For x86-64 Linux. Link libmixing_c.a, which `rt lib` in
+ * crates/mixing_c writes to out/ there; it asks for memcpy and memset and nothing else:
  *
- *     gcc -Iinclude -o prog prog.c target/staticlib/libmixing_c.a
+ *     gcc -Iinclude -o prog prog.c crates/mixing_c/out/libmixing_c.a
  *
  * Refusals, tables and answers in a comment are the function's proved promise (crates/mixing_c/src/lib.rt), for every input: a call ends, stays
  * inside the tables it was lent, refuses exactly where the comment says, and leaves every table entry as the comment says. docs/RULES.md has

@@ -1,6 +1,7 @@
 // What every crate rests on: the limits on numbers (docs/RULES.md, 'Limits'), what a call that writes tables alone answers, and
 // numbers as words and as indices.
 #![tactic(auto)]
+
 ghost use Rattle.std.specs.Prelude.{◌≡◌, ◌<◌, ◌^◌, min as min_of, max as max_of};
 
 // Solute atoms, and waters.

@@ -52,13 +52,17 @@ module _ (b is : List ℕ) (ss ws : List Float) where
   -- the four promises, of an answer and of the tables afterwards
   abbrev pub Owed : Block → List ℕ → List Float → List Float → Type 0
   Owed r is₁ ss₁ ws₁ =
-      (r ≡ block_answer b is ss ws)
-      × ((is₁ ≡ indices_after b is ss ws) × ((ss₁ ≡ solutes_after b is ss ws) × (ws₁ ≡ waters_after b is ss ws)))
+      record {
+        answer : r ≡ block_answer b is ss ws;
+        indices_after : is₁ ≡ indices_after b is ss ws;
+        solutes_after : ss₁ ≡ solutes_after b is ss ws;
+        waters_after : ws₁ ≡ waters_after b is ss ws;
+      }
 
   pub refused : (m : ℕ) → block_refusal b is ss ws ≡ suc m → Owed (Refused (suc m)) is ss ws
   unfolding block_answer indices_after solutes_after waters_after
-  refused m e = (rw e, (rw e, (rw e, rw e)))
+  refused m e = record { answer = rw e; indices_after = rw e; solutes_after = rw e; waters_after = rw e }
 
   pub taken : block_refusal b is ss ws ≡ 0 → Owed (Frame (per_copy b) (solute_atoms b) (index_count b) (water_count b) (block_cell b)) (over (indices_of b) is) (over (solutes_of b) ss) (over (waters_of b) ws)
   unfolding block_answer indices_after solutes_after waters_after
-  taken e = (rw e, (rw e, (rw e, rw e)))
+  taken e = record { answer = rw e; indices_after = rw e; solutes_after = rw e; waters_after = rw e }

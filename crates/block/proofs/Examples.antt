@@ -51,7 +51,7 @@ ones n = replicate n (f 0x3f80_0000)
 
 pub record Checked : Type 0 where
   pub length-word : length_word listed ≡ 78
-  pub is_block : is_block listed ≡ true
+  pub is-block : is_block listed ≡ true
   pub answer : block_answer listed (9 ∷ []) (ones 7) (ones 4) ≡ Frame 1 2 0 1 (record { low = alike 0; high = alike 0x4180_0000 })
   -- each table begins with its part, and keeps the rest
   pub indices : indices_after listed (9 ∷ []) (ones 7) (ones 4) ≡ 9 ∷ []
@@ -94,7 +94,7 @@ unfolding
 checked =
     record {
       length-word = refl;
-      is_block = refl;
+      is-block = refl;
       answer = refl;
       indices = refl;
       solutes = refl;

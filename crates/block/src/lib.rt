@@ -1,6 +1,7 @@
 // The block of bytes that holds a frame (docs/RULES.md, program `frame`): the header is tested before a table is written, so that
 // no count in it leads outside, and a refusal changes nothing.
 #![tactic(auto)]
+
 ghost use Rattle.std.specs.Prelude.{◌≡◌, ◌+◌, ◌*◌, ◌^◌, ◌<◌, ◌≤◌, length, get_or};
 ghost use Rattle.base.specs.Tables.{over};
 ghost use Rattle.block.specs.Block.{half_at, word_at, float_at, words_from, floats_from, is_block, block_cell, block_answer, indices_after, solutes_after, waters_after};

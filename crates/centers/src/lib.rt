@@ -1,5 +1,6 @@
 // Centers of copies (docs/RULES.md, 'Centers and dispersion'; the Rust's `solute_mol_center(s)`). f32 arithmetic, each operation rounded once.
 #![tactic(auto)]
+
 ghost use Rattle.std.specs.Prelude.{◌≡◌, true, [], ℕ, ◌+◌, ◌*◌, ◌<◌, ◌≤◌, length, get_or, replicate};
 ghost use Rattle.base.specs.Limits.{max_copies, max_picks};
 ghost use Rattle.floats.specs.Constants.{zero32};

@@ -2,6 +2,7 @@
 // it is opened and tested, gets its contacts and marks, and gives its fractions. A function asks for what it needs and tests none of it: the calls that do
 // are Open, Row and Close of `clusters`.
 #![tactic(auto)]
+
 ghost use Rattle.std.specs.Prelude.{◌≡◌, true, ◌+◌, ◌^◌, ◌<◌, ◌≤◌, ltb, eqb, length, get_or, set};
 ghost use Rattle.base.specs.Limits.{max_copies};
 ghost use Rattle.base.specs.Range.{all_below, count};

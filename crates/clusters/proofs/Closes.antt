@@ -44,21 +44,21 @@ module _ (t : List ℕ) where
       many-copies m = refused 9 (λ z. omega arith) (chain ∙ rw (le-ltb (length t) header h, ← e, le-ltb (length t) (words n) l, lt-ltb max_copies n m))
 
       module _ (m : n ≤ max_copies) (b : Bool) (tested : b ≡ sound_table n t) where
-        pub unsound : not b ≡ true → Refused 9 ≡ close_answer t
+        pub unsound : b ≡ false → Refused 9 ≡ close_answer t
         unsound u = refused 9 (λ z. omega arith) (chain ∙ rw (le-ltb (length t) header h, ← e, le-ltb (length t) (words n) l, le-ltb max_copies n m, ← tested, u))
 
-        module _ (sound : not b ≡ false) where
+        module _ (sound : b ≡ true) where
           -- only the marks are left to test
           close-last : close_refusal t ≡ cond (not (all_below n (λ i. eqb (mark n t i) 1))) 12 0
           close-last = chain ∙ rw (le-ltb (length t) header h, ← e, le-ltb (length t) (words n) l, le-ltb max_copies n m, ← tested, sound)
 
           module _ (d : Bool) (marked : d ≡ all_below n (λ i. eqb (mark n t i) 1)) where
-            pub waits : not d ≡ true → Refused 12 ≡ close_answer t
+            pub waits : d ≡ false → Refused 12 ≡ close_answer t
             waits a = refused 12 (λ z. omega arith) (close-last ∙ rw (← marked, a))
 
-            close-none : not d ≡ false → close_refusal t ≡ 0
+            close-none : d ≡ true → close_refusal t ≡ 0
             close-none a = close-last ∙ rw (← marked, a)
 
-            pub gives : not d ≡ false → (f : ClusterFractions) → f ≡ table_fractions t → closed f ≡ close_answer t
+            pub gives : d ≡ true → (f : ClusterFractions) → f ≡ table_fractions t → closed f ≡ close_answer t
             unfolding close_answer
             gives a f e = ap closed e ∙ sym (at_none (close_refusal t) (closed (table_fractions t)) (Refused (close_refusal t)) (close-none a))

@@ -1,6 +1,7 @@
 // Clusters of touching copies (docs/RULES.md, 'Clusters'): Open, Row and Close over a lent cluster table (crate `cluster_table`). A scan may
 // be split over several jobs: whatever order the rows come in, Close gives one answer (the order rule, specs/Order.antt).
 #![tactic(auto)]
+
 ghost use Rattle.std.specs.Prelude.{◌≡◌, true, [], ◌<◌, ◌≤◌, length};
 ghost use Rattle.base.specs.Refusals.{first_refusal};
 ghost use Rattle.cell.specs.Reach.{sound_reach};

@@ -1,6 +1,7 @@
 // How evenly the centers of copies are spread (docs/RULES.md, 'Centers and dispersion'; the Rust's `solute_center_dispersion_score`).
 // f32 arithmetic, each operation rounded once; squared distances are summed in f64.
 #![tactic(auto)]
+
 ghost use Rattle.std.specs.Prelude.{◌≡◌, true, [], ℕ, ◌+◌, ◌-◌, ◌*◌, ◌<◌, ◌≤◌, length, get_or};
 ghost use Rattle.std.specs.Float.{binary64, nan};
 ghost use Rattle.std.specs.Float.Ieee.{of_bits};

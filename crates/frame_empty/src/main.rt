@@ -1,5 +1,9 @@
 // What `frame` prints for no input: 14. Standard input is an empty file.
 #![tactic(auto)]
-fn main() {
-    frame_io::print_frame();
+
+use std::io;
+
+fn main(rt: HostRuntime) -> io::Result<()> {
+    frame_io::print_frame(&rt)?;
+    Ok(())
 }

@@ -1,14 +1,19 @@
 // What program `frame` does (docs/RULES.md): reads one block from standard input and prints `refused` and the number, `blank`, or the
-// listing. No contract can say which bytes are read or written; `put_input` promises the text of whatever input was read.
+// listing. No contract can say which bytes the system gives or takes; `put_frame` promises the text of the input for every reader and writer
+// whose bytes are known.
 #![tactic(auto)]
-ghost use Rattle.std.specs.Prelude.{◌≤◌, ◌<◌, length};
+
+ghost use Rattle.std.specs.Prelude.{◌≡◌, ◌≤◌, ◌<◌, length, IfOk, IfSome, OnOk};
+ghost use Rattle.std.specs.Io.KnownBytes.{Appends};
 ghost use Rattle.block.specs.Block.{max_block};
-ghost use Rattle.io.specs.Counts.{IsPrefixLen};
+ghost use Rattle.block_text.specs.Printed.{printed};
+ghost use Rattle.std.specs.Counts.{IsPrefixLen};
 ghost use Rattle.frame_io.specs.Input.{WholeText, TextLength};
 
 use block::MAX_BLOCK;
 use block_text::TEXT_ROOM;
-use libc::{STDIN_FILENO, STDOUT_FILENO};
+use std::io;
+use std::io::{Read, Write};
 
 // One byte more than a block may have, so that longer input is seen.
 const INPUT_ROOM: usize = MAX_BLOCK + 1;
@@ -32,14 +37,23 @@ fn text_room() -> [u8; TEXT_ROOM] {
     [0u8; TEXT_ROOM]
 }
 
-// Reads the input, to its end or until the buffer is full, prints its text, and answers how many bytes that has.
-pub fn print_frame() -> usize
-    ensures { TextLength result }
+// Reads the input, to its end or until the buffer is full, writes its text, and answers how many bytes that has.
+pub fn put_frame<R: Read, W: Write>(from: &mut R, to: &mut W) -> io::Result<usize>
+    ensures length { IfOk result (λ n. TextLength n) }
+    ensures count { IfOk result (λ n. IfSome (R.remaining from.old) (λ s. n ≡ length (printed s))) }
+    ensures text { OnOk result (IfSome (R.remaining from.old) (λ s. Appends (W.contents to.old) (W.contents to.new) (printed s))) }
 {
     let mut input = input_room();
-    let n = io::read_full(STDIN_FILENO, &mut input);
+    let n = input::read_full(from, &mut input)?;
     let mut out = text_room();
     let m = put_input(&input, n, &mut out);
-    io::write_all(STDOUT_FILENO, &out[..m]);
-    m
+    to.write_all(&out[..m])?;
+    Ok(m)
+}
+
+// Reads the input, to its end or until the buffer is full, prints its text, and answers how many bytes that has.
+pub fn print_frame(rt: &(impl Input + Print)) -> io::Result<usize>
+    ensures { IfOk result (λ n. TextLength n) }
+{
+    put_frame(&mut rt.reader(), &mut io::writer(rt))
 }

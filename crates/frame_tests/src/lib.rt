@@ -1,6 +1,7 @@
 // What the whole frame tests, after 1, 2, 3 and 4, before it writes anything (docs/RULES.md, 'Whole frame'): blank, then 5, 6, 16 and 7. The order of
 // all its refusals is crate `mixing`'s.
 #![tactic(auto)]
+
 ghost use Rattle.std.specs.Prelude.{◌≡◌};
 ghost use Rattle.base.specs.Refusals.{first_refusal};
 ghost use Rattle.frame_tests.specs.Tests.{is_blank, size_refusals};

@@ -3,6 +3,7 @@
 // A gate is tested once, at its ends, with the very functions of the definition; no error is estimated. Turn t has a gate of its own, from a
 // little past t extents to a little before the next. Lengths are in angstrom.
 #![tactic(auto)]
+
 ghost use Rattle.std.specs.Prelude.{◌≡◌, true, ◌||◌, ℕ, ◌+◌, ◌<◌, ◌≤◌};
 ghost use Rattle.cell.specs.Cell.{extent_of};
 ghost use Rattle.gates.specs.Inner.{turns_of, clear_right, clear_left, holds_at, short as short_of, ends_at, certified as certified_of, gate_at, gates_of, far_of, far_ends, rejects_of, screen_of, guess_of, far_turns, SureAxis, SureTurns};

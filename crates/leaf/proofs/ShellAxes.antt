@@ -1,9 +1,8 @@
 -- Whether a water is in a shell, an axis at a time: one axis outside is enough, and with the first two inside the third decides. An axis
 -- that was not looked at is as the definition has it. Assumes nothing.
 use mathlib.Core.Path.{◌≡◌, refl, sym, ◌∙◌}
-use mathlib.Core.Bool.{Bool, true, false, ◌&&◌, not, and-false}
+use mathlib.Core.Bool.{Bool, true, false, ◌&&◌, and-false}
 use lib.Ieee.{Float, binary32, sub}
-use borrow.Author.Tests.{not-true, not-false}
 use Rattle.cell.specs.Cell.{image_axis, extent_of, min_image, minus}
 use Rattle.cell.specs.declared.Cell.{Cell}
 use Rattle.cell.specs.declared.Vec3.{Vec3}
@@ -24,12 +23,12 @@ module _ (c : Cell) (b : OctreeBounds) (w e : Vec3) (is : e ≡ extent_of c) (x 
   unfolding in_shell min_image minus
   shell-is y z on-y on-z = rw (on-x, on-y, on-z, is) refl
 
-  pub outside-x : not x ≡ true → false ≡ in_shell c b w
-  outside-x n = sym (shell-is _ _ refl refl ∙ rw (not-true x n) refl)
+  pub outside-x : x ≡ false → false ≡ in_shell c b w
+  outside-x n = sym (shell-is _ _ refl refl ∙ rw n refl)
 
-  module _ (n : not x ≡ false) (y : Bool) (on-y : y ≡ inside b.center.y w.y b.extent.y e.y) where
-    pub outside-y : not y ≡ true → false ≡ in_shell c b w
-    outside-y m = sym (shell-is y _ on-y refl ∙ rw (not-true y m, and-false x) refl)
+  module _ (n : x ≡ true) (y : Bool) (on-y : y ≡ inside b.center.y w.y b.extent.y e.y) where
+    pub outside-y : y ≡ false → false ≡ in_shell c b w
+    outside-y m = sym (shell-is y _ on-y refl ∙ rw (m, and-false x) refl)
 
-    pub last-axis : not y ≡ false → (z : Bool) → z ≡ inside b.center.z w.z b.extent.z e.z → z ≡ in_shell c b w
-    last-axis m z on-z = sym (shell-is y z on-y on-z ∙ rw (not-false x n, not-false y m) refl)
+    pub last-axis : y ≡ true → (z : Bool) → z ≡ inside b.center.z w.z b.extent.z e.z → z ≡ in_shell c b w
+    last-axis m z on-z = sym (shell-is y z on-y on-z ∙ rw (n, m) refl)

@@ -2,6 +2,7 @@
 // `water_count_in_expanded_bounds`, the ratio of `occupancy_count_score`, `reference_octree_leaf_volume` and `partition_size_score`. Every
 // f32 operation rounds once, left to right. Lengths are in angstrom.
 #![tactic(auto)]
+
 ghost use Rattle.std.specs.Prelude.{◌≡◌, true, cond, ◌*◌, ◌≤◌, length};
 ghost use Rattle.std.specs.Float.{binary32};
 ghost use Rattle.std.specs.Float.Ieee.{sub};

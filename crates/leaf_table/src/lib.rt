@@ -1,5 +1,6 @@
 // The leaf table (docs/RULES.md, 'Leaf report'): eight words for each leaf with centers, from the node tables of a tree.
 #![tactic(auto)]
+
 ghost use Rattle.std.specs.Prelude.{◌≡◌, ◌&&◌, cond, ℕ, ◌+◌, ◌*◌, ◌^◌, ◌≤◌, ◌<◌, eqb, ltb, length, get_or};
 ghost use Rattle.base.specs.Limits.{max_atoms};
 ghost use Rattle.cell.specs.Cell.{point_at};

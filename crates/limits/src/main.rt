@@ -2,11 +2,12 @@
 // docs/RULES.md says: a refusal's number, or 0. The expected answers were worked out from the rules, by hand. Every atom is at the origin,
 // unless a case says otherwise.
 #![tactic(auto)]
+
 ghost use Rattle.std.specs.Prelude.{◌<◌, ◌≤◌};
 
 use cell::{Cell, Vec3};
-use libc::STDOUT_FILENO;
 use selection::Selected;
+use std::io;
 
 // Five numbers, those that a kind of case does not use 0, and the expected answer.
 #[derive(Clone, Copy)]
@@ -75,21 +76,20 @@ fn pick_room() -> [u32; 65537] {
     [0u32; 65537]
 }
 
-fn text(s: &[u8]) {
-    io::write_all(STDOUT_FILENO, s);
+fn text(rt: &impl Print, s: &str) -> io::Result<()> {
+    rt.print(s)
 }
 
-fn number(before: &[u8], n: u64) {
-    io::write_all(STDOUT_FILENO, before);
-    io::print_decimal(STDOUT_FILENO, n);
+fn number(rt: &impl Print, before: &str, n: u64) -> io::Result<()> {
+    print!(rt; "{before}{n}")
 }
 
-fn show(name: &[u8], case: usize, got: u32, expected: usize) {
-    text(name);
-    number(b" ", case as u64);
-    number(b": ", got as u64);
-    number(b", expected ", expected as u64);
-    text(b"\n");
+fn show(rt: &impl Print, name: &str, case: usize, got: u32, expected: usize) -> io::Result<()> {
+    text(rt, name)?;
+    number(rt, " ", case as u64)?;
+    number(rt, ": ", got as u64)?;
+    number(rt, ", expected ", expected as u64)?;
+    text(rt, "\n")
 }
 
 // The cell from 0 to h on each axis.
@@ -186,21 +186,29 @@ fn answer(xs: &[f32], kind: u32, c: Case) -> u32 {
 }
 
 // The rows from `from` to `to`, cases of one kind.
-fn cases(name: &[u8], xs: &[f32], kind: u32, from: usize, to: usize)
+fn cases(
+    rt: &impl Print,
+    name: &str,
+    xs: &[f32],
+    kind: u32,
+    from: usize,
+    to: usize,
+) -> io::Result<()>
     requires { (from ≤ to) × (to ≤ 36) }
 {
     let mut i = from;
     while i < to {
         let c = row(i);
-        show(name, i - from, answer(xs, kind, c), c.5);
+        show(rt, name, i - from, answer(xs, kind, c), c.5)?;
         i += 1;
     }
+    Ok(())
 }
 
-fn main() {
+fn main(rt: HostRuntime) -> io::Result<()> {
     let xs = coordinate_room();
-    cases(b"select", &xs, 0, 0, 16);
-    cases(b"coordinate", &xs, 1, 16, 22);
-    cases(b"cell", &xs, 2, 22, 30);
-    cases(b"pick lists", &xs, 3, 30, 36);
+    cases(&rt, "select", &xs, 0, 0, 16)?;
+    cases(&rt, "coordinate", &xs, 1, 16, 22)?;
+    cases(&rt, "cell", &xs, 2, 22, 30)?;
+    cases(&rt, "pick lists", &xs, 3, 30, 36)
 }

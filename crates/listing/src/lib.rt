@@ -1,6 +1,7 @@
 // What program `frame` prints (docs/RULES.md), written into a lent buffer: `refused` and a number, `blank`, or the listing.
 // The text's length is counted before its first byte is written, so that a refusal changes nothing.
 #![tactic(auto)]
+
 ghost use Rattle.std.specs.Prelude.{◌≡◌, false};
 ghost use Rattle.listing.specs.Listing.{refused_text, blank_text, listing_text, leaves_missing, text_answer, text_after};
 

@@ -1,6 +1,7 @@
 // Pick lists (docs/RULES.md, 'Selection' and refusal 8): whether they are sound, the picks of a copy, and the refusals that every call on them makes
 // first.
 #![tactic(auto)]
+
 ghost use Rattle.std.specs.Prelude.{◌≡◌, true, ◌&&◌, ◌+◌, ◌*◌, ◌/◌, ◌≤◌, ◌<◌, ltb, length, get_or};
 ghost use Rattle.base.specs.Refusals.{first_refusal};
 ghost use Rattle.pick_lists.specs.Sound.{finite_atom, rises as rises_of, all_finite, pick_list, sound_starts, sound_lists};

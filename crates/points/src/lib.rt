@@ -1,5 +1,6 @@
 // The points of a tree (docs/RULES.md, 'Octree'): the centers of the copies, wrapped once more, and the finite waters, wrapped.
 #![tactic(auto)]
+
 ghost use Rattle.std.specs.Prelude.{◌≡◌, true, [], ◌*◌, ◌≤◌, length, replicate};
 ghost use Rattle.floats.specs.Constants.{zero32};
 ghost use Rattle.base.specs.Limits.{max_atoms};

@@ -3,17 +3,18 @@
 // first, from 0, that did not. The file (oracle/README.md, 'Recorded answers') is a count, then for each block its length, its bytes,
 // the length of its listing and the listing; counts and lengths are four bytes, the lowest first.
 #![tactic(auto)]
+
 ghost use Rattle.std.specs.Prelude.{◌+◌, ◌^◌, ◌≤◌, ◌<◌, length};
 
 use block_text::TEXT_ROOM;
-use libc::{STDIN_FILENO, STDOUT_FILENO};
+use std::io;
 
-fn text(s: &[u8]) {
-    io::write_all(STDOUT_FILENO, s);
+fn text(rt: &impl Print, s: &str) -> io::Result<()> {
+    rt.print(s)
 }
 
-fn decimal(n: usize) {
-    io::print_decimal(STDOUT_FILENO, n as u64);
+fn decimal(rt: &impl Print, n: usize) -> io::Result<()> {
+    rt.print(n)
 }
 
 fn byte(bytes: &[u8], at: usize) -> usize
@@ -109,25 +110,25 @@ fn counted(n: usize, so: bool) -> usize
 }
 
 // `led` blocks agreed before the first that did not.
-fn tell(count: usize, agreed: usize, led: usize, more: bool) {
-    decimal(count);
-    text(b" blocks, ");
-    decimal(agreed);
-    text(b" agreed\n");
+fn tell(rt: &impl Print, count: usize, agreed: usize, led: usize, more: bool) -> io::Result<()> {
+    decimal(rt, count)?;
+    text(rt, " blocks, ")?;
+    decimal(rt, agreed)?;
+    text(rt, " agreed\n")?;
     if led < count {
-        text(b"the first that did not: ");
-        decimal(led);
-        text(b"\n");
+        text(rt, "the first that did not: ")?;
+        decimal(rt, led)?;
+        text(rt, "\n")?;
     }
     if more {
-        text(b"the file goes on after the last block\n");
+        text(rt, "the file goes on after the last block\n")?;
     }
+    Ok(())
 }
 
-fn replay(file: &[u8]) {
+fn replay(rt: &impl Print, file: &[u8]) -> io::Result<()> {
     if file.len() < 4 {
-        text(b"no recorded answers\n");
-        return;
+        return text(rt, "no recorded answers\n");
     }
     let count = word(file);
     let mut at = 4;
@@ -141,11 +142,11 @@ fn replay(file: &[u8]) {
         led = counted(led, r.agrees & (led == done));
         done += 1;
     }
-    tell(count, agreed, led, at < file.len());
+    tell(rt, count, agreed, led, at < file.len())
 }
 
-fn main() {
+fn main(rt: HostRuntime) -> io::Result<()> {
     let mut input = input_room();
-    let n = io::read_full(STDIN_FILENO, &mut input);
-    replay(&input[..n]);
+    let n = input::read_full(&mut rt.reader(), &mut input)?;
+    replay(&rt, &input[..n])
 }

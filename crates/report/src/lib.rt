@@ -1,6 +1,7 @@
 // The leaf report (docs/RULES.md, Report): Report rebuilds the tree in the lent tables and fills a leaf table. Beside the tables it keeps
 // what Tree keeps on its stack.
 #![tactic(auto)]
+
 ghost use Rattle.std.specs.Prelude.{◌≡◌, true, ◌≤◌, ◌*◌, length};
 ghost use Rattle.base.specs.Limits.{max_atoms};
 ghost use Rattle.pick_lists.specs.Sound.{sound_lists, copies};

@@ -1,6 +1,7 @@
 // The unchecked scan of every row (docs/RULES.md, 'Whole frame'): Open and the rows in rising order, for input that nothing refuses, with one span table
 // for all rows. What a row adds is crate `clusters`' own.
 #![tactic(auto)]
+
 ghost use Rattle.std.specs.Prelude.{◌≡◌, true, [], ◌*◌, ◌<◌, ◌≤◌, length};
 ghost use Rattle.cell.specs.Cell.{extent_of};
 ghost use Rattle.cell.specs.Reach.{sound_reach};

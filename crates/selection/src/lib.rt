@@ -1,6 +1,7 @@
 // Which atoms count (docs/RULES.md, 'Selection'): Select.
 // Select passes over the copies twice: it counts before it writes, so that a refusal changes nothing.
 #![tactic(auto)]
+
 ghost use Rattle.std.specs.Prelude.{◌≡◌, ◌+◌, ◌*◌, ◌≤◌, ◌<◌, length};
 ghost use Rattle.base.specs.Limits.{max_atoms, max_indices, max_picks};
 ghost use Rattle.base.specs.Refusals.{first_refusal};

@@ -1,6 +1,7 @@
 // The boxes of all copies in one table, for the scan of a whole frame: a row's copies are flagged first, and the search looks at the others. The
 // table has six numbers a copy: the least x of each copy, then the greatest, and the same for y and z. Lengths are in angstrom.
 #![tactic(auto)]
+
 ghost use Rattle.std.specs.Prelude.{◌≡◌, true, false, cond, [], ℕ, ◌+◌, ◌*◌, ◌<◌, ◌≤◌, length, get_or};
 ghost use Rattle.std.specs.Float.{nan};
 ghost use Rattle.base.specs.Limits.{max_copies};

@@ -89,9 +89,9 @@ module _ (c : Cell) (k : Float) (xs : List Float) (h : tested c k xs ≡ true) (
       lt_not_le (mul binary32 (image_axis d f) (image_axis d f)) (cutoff2 k) (image-sized d f F w).square (cutoff-finite k (tested-is c k xs h).reach) (holds t)
 
   -- near an axis at a time is near
-  near_by : near_by k e (point_at xs p) (point_at xs q) ≡ near k e xs p q
+  axes-near : near_by k e (point_at xs p) (point_at xs q) ≡ near k e xs p q
   unfolding near_by near
-  near_by =
+  axes-near =
       let d = minus (point_at xs q) (point_at xs p) in
       let w = apart-around c k xs h p q fp fq in
       by-axis (over_axis k d.x e.x) (λ t. apart-x c k xs h p q fp fq (over-apart d.x e.x E.on-x w.on-x t))
@@ -112,7 +112,7 @@ module _ (c : Cell) (k : Float) (xs : List Float) (h : tested c k xs ≡ true) (
 
       go : (t : Bool) → sx && (sy && sz) ≡ t
           → cond t (le (squared (minus (minus (point_at xs q) (point_at xs p)) by)) (cutoff2 k)) (near_by k e (point_at xs p) (point_at xs q)) ≡ near k e xs p q
-      go false t = near_by
+      go false t = axes-near
       go true t =
           let a = both sx (sy && sz) t in
           let d = both sy sz a.1 in

@@ -2,6 +2,7 @@
 // pairs of picks is looked at. Where they are not, all separations from one box to the other nearly always take off the same number of extents,
 // and a search over the picks needs no division. Lengths are in angstrom.
 #![tactic(auto)]
+
 ghost use Rattle.std.specs.Prelude.{◌≡◌, true, cond, [], ℕ, ◌+◌, ◌-◌, ◌*◌, ◌<◌, ◌≤◌, length, get_or};
 ghost use Rattle.base.specs.Limits.{max_picks};
 ghost use Rattle.cell.specs.Cell.{extent_of, point_at, finite_point};

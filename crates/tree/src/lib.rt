@@ -1,6 +1,7 @@
 // Tree (docs/RULES.md, 'Octree'; the Rust's `MixingOctree::new`): the octree over the centers of the copies and the finite waters.
 // Beside the lent tables a call keeps the wrapped points on its stack: 12,288 and 196,608 floats, and 65,536 words and bytes to split.
 #![tactic(auto)]
+
 ghost use Rattle.std.specs.Prelude.{◌≡◌, true, [], ◌*◌, ◌≤◌, length};
 ghost use Rattle.base.specs.Limits.{max_atoms};
 ghost use Rattle.base.specs.Refusals.{first_refusal};

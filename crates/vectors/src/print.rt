@@ -1,14 +1,14 @@
 // Printing to standard output.
 ghost use Rattle.std.specs.Prelude.{◌≤◌, ◌<◌};
 
-use libc::STDOUT_FILENO;
+use std::io;
 
-pub(crate) fn text(s: &[u8]) {
-    io::write_all(STDOUT_FILENO, s);
+pub(crate) fn text(rt: &impl Print, s: &str) -> io::Result<()> {
+    rt.print(s)
 }
 
-pub(crate) fn decimal(n: u64) {
-    io::print_decimal(STDOUT_FILENO, n);
+pub(crate) fn decimal(rt: &impl Print, n: u64) -> io::Result<()> {
+    rt.print(n)
 }
 
 // The capital hexadecimal digit that counts d.
@@ -19,13 +19,13 @@ fn glyph(d: u64) -> u8
 }
 
 // The last so many hexadecimal digits of bits.
-pub(crate) fn word(bits: u64, digits: usize)
+pub(crate) fn word(rt: &impl Print, bits: u64, digits: usize) -> io::Result<()>
     requires { digits ≤ 16 }
 {
     let mut left = digits;
     while left > 0 {
         left -= 1;
-        let one = [glyph((bits >> (left * 4)) % 16)];
-        text(&one);
+        rt.write_all(&[glyph((bits >> (left * 4)) % 16)])?;
     }
+    Ok(())
 }

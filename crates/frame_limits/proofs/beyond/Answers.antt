@@ -1,9 +1,8 @@
 -- What is left to prove of `beyond`. Assumes nothing.
-use Prim.Native.Nat.{◌-◌}
 use mathlib.Core.Path.{refl, sym, ap, ◌∙◌}
 use mathlib.Core.Bool.{Bool, ◌||◌, or-false}
 use borrow.Author.Rules.{rules}
-use Rattle.frame_limits.specs.Limits.{beyond, any, max_coordinate}
+use Rattle.frame_limits.specs.Limits.{beyond, max_coordinate}
 use Rattle.frame_limits.proofs.Search.{any_step, any-end}
 use Rattle.frame_limits.proofs.beyond.Goals as goal
 

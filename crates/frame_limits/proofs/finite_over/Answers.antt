@@ -1,9 +1,8 @@
 -- What is left to prove of `finite_over`. Assumes nothing.
-use Prim.Native.Nat.{◌-◌}
 use mathlib.Core.Path.{refl, sym, ap, ◌∙◌}
 use mathlib.Core.Bool.{Bool, ◌||◌, or-false}
 use borrow.Author.Rules.{rules}
-use Rattle.frame_limits.specs.Limits.{exceeds, any, any_over, max_coordinate}
+use Rattle.frame_limits.specs.Limits.{exceeds, any_over, max_coordinate}
 use Rattle.frame_limits.proofs.Search.{any_step, any-end}
 use Rattle.frame_limits.proofs.finite_over.Goals as goal
 

@@ -1,5 +1,5 @@
 -- `frame_limits::limit_refusal` meets its contract. The refusals are one chain of tests (`limit-chain`), and each return knows
--- the tests up to it: `e1` is the place past the first test, `e2` past the second, and so on. Assumes nothing.
+-- the tests up to it. Assumes nothing.
 use Rattle.frame_limits.proofs.FrameRefusals.{limit-chain}
 use Rattle.frame_limits.proofs.limit_refusal.Goals as goal
 

@@ -1,11 +1,9 @@
 -- What is left to prove of `all_end`. Assumes nothing.
 use mathlib.Core.Path.{refl, sym, ◌∙◌}
-use mathlib.Core.Bool.{true}
-use Prim.Native.Nat.{◌-◌, zero-le}
+use Prim.Native.Nat.{zero-le}
 use native.Mathlib.Omega.{arith}
 use borrow.Author.Rules.{rules}
 use borrow.Author.Count.{below_none, below_more}
-use borrow.Author.Tests.{not-true, not-false}
 use Rattle.base.proofs.Ranges.{all_true, all-false}
 use Rattle.sound_parents.proofs.all_end.Goals as goal
 
@@ -18,12 +16,12 @@ ends-requires c = record { parent_value = c.requires.parent_value; i_in_bounds =
 pub returns-then-not-ends : goal.returns-then-not-ends
 returns-then-not-ends c =
     let e = c.ends.ensures in
-    sym (all-false _ _ _ c.loop-i-test.true (sym e.0 ∙ not-true _ c.if-not-ends.true))
+    sym (all-false _ _ _ c.loop-i-test.true (sym e.value ∙ c.if-not-ends.true))
 
 pub loop-i-preserved : goal.loop-i-preserved
 loop-i-preserved c =
     let e = c.ends.ensures in
-    (omega arith, search rules, e.1 (not-false _ c.if-not-ends.false), below_more _ _ c.loop-i.invariant.3 (sym e.0 ∙ not-false _ c.if-not-ends.false))
+    (omega arith, search rules, e.stamped_2 c.if-not-ends.false, below_more _ _ c.loop-i.invariant.3 (sym e.value ∙ c.if-not-ends.false))
 
 pub shape_of-seen : goal.shape_of-seen
 shape_of-seen c = c.loop-i.invariant.1

@@ -13,7 +13,7 @@ pub shape_of-seen-then-parent-k : goal.shape_of-seen-then-parent-k
 shape_of-seen-then-parent-k c = simp length-set c.loop-seen.invariant.0
 
 pub returns-then-parent-k : goal.returns-then-parent-k
-returns-then-parent-k c = climb-root (closed_of _ c.requires.parent_value) c.requires.i_in_bounds.0 (omega (arith, c.loop-seen.invariant.0)) c.loop-seen.invariant.1 c.if-parent-k.true
+returns-then-parent-k c = let r = climb-root (closed_of _ c.requires.parent_value) c.requires.i_in_bounds.0 (omega (arith, c.loop-seen.invariant.0)) c.loop-seen.invariant.1 c.if-parent-k.true in record { value = r.0; stamped_2 = r.1 }
 
 pub loop-seen-smaller : goal.loop-seen-smaller
 loop-seen-smaller c = climb-less (omega (arith, c.loop-seen.invariant.0, c.requires.i_in_bounds.1)) c.loop-seen.invariant.1 c.loop-seen-test.true
@@ -28,4 +28,4 @@ pub shape_of-seen : goal.shape_of-seen
 shape_of-seen c = c.loop-seen.invariant.0
 
 pub returns : goal.returns
-returns c = climb-end (closed_of _ c.requires.parent_value) c.requires.i_in_bounds.0 c.loop-seen.invariant.1 c.loop-seen-test.false
+returns c = let r = climb-end (closed_of _ c.requires.parent_value) c.requires.i_in_bounds.0 c.loop-seen.invariant.1 c.loop-seen-test.false in record { value = r.0; stamped_2 = r.1 }

@@ -1,13 +1,12 @@
 -- What is left to prove of `greatest_size`. Assumes nothing.
 use mathlib.Core.Path.{◌≡◌, refl}
-use Prim.Native.Nat.{◌-◌, ◌≤◌, ◌<◌}
+use Prim.Native.Nat.{◌≤◌, ◌<◌}
 use native.Mathlib.Omega.{arith}
 use lib.ListN.{length, get_or, length-set}
 use Rattle.union_find.specs.Parents.{largest_set}
 use Rattle.union_find.proofs.Forest.{Sound, sound-parents}
 use Rattle.union_find.proofs.Sizes.{tally-first, tally-sound, tally-below, tally-few, tally-next, tally-last, largest-le}
 use Rattle.union_find.proofs.greatest_size.Goals as goal
-use Rattle.union_find.proofs.greatest_size.Goals.{then-most-size, else-most-size}
 
 pub loop-i-init : goal.loop-i-init
 loop-i-init c = (refl, tally-first ((sound-parents _).0 c.requires.p_value.0) c.requires.by_index)
@@ -48,7 +47,7 @@ loop-i-preserved c =
       simp length-set c.loop-i.invariant.0,
       rw c.find_root-r.ensures.parent_after
           (tally-next sound-entry (below c.loop-i-test.true) c.loop-i.invariant.1 c.find_root-r.result c.find_root-r.ensures.value _ refl
-          wide c.if-most-size.most (elim c.if-most-size.branch [ then-most-size w ↦ omega arith | else-most-size w ↦ omega arith ])),
+          wide _ (grind arith)),
     )
 
 pub overflow_cast-result : goal.overflow_cast-result

@@ -14,4 +14,3 @@ returns-then-is_nan_bits32 c = no_number ∙ sym (nan-tested binary32 c.args.b (
 
 pub float_from_bits-result : goal.float_from_bits-result
 float_from_bits-result c = fails (sym c.is_nan_bits32.ensures ∙ c.if-is_nan_bits32.false)
-

@@ -6,4 +6,3 @@ use Rattle.numbers.proofs.class.is_finite32.Goals as goal
 pub returns : goal.returns
 unfolding of_bits
 returns c = finite-test binary32 c.args.x
-

@@ -8,4 +8,3 @@ use Rattle.numbers.proofs.class.is_nan_bits32.Goals as goal
 
 pub returns : goal.returns
 returns c = ap (ltb 0x7f80_0000) (unsigned_is binary32 c.args.b) ∙ sym (nan_bits_above binary32 c.args.b)
-

@@ -7,4 +7,3 @@ use Rattle.numbers.proofs.class.is_nan_bits64.Goals as goal
 
 pub returns : goal.returns
 returns c = ap (ltb 0x7ff0_0000_0000_0000) (unsigned_is binary64 c.args.b) ∙ sym (nan_bits_above binary64 c.args.b)
-

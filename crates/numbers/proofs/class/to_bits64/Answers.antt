@@ -13,4 +13,3 @@ returns-then-x c = quiet ∙ ap (to_bits binary64) (sym (is-nan c.args.x c.if-x.
 
 pub float_to_bits-result : goal.float_to_bits-result
 float_to_bits-result c = no_nan c.args.x c.if-x.false
-

@@ -27,4 +27,3 @@ returns c =
     let g : 9223372036854775808 ≤ b = omega arith in
     ap (λ (k : ℕ). k + 2147483648) c.narrow_size-low.ensures.0
     ∙ narrow-minus b (bit_and b 9223372036854775807) g (size_is b) c.if-size-gt9218868437227405312.false
-

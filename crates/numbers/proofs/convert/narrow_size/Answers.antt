@@ -24,7 +24,6 @@ overflow_cast-result c =
 pub returns-then-exponent-ge897 : goal.returns-then-exponent-ge897
 returns-then-exponent-ge897 c =
     let kept-le : c.shift_nearest.result ≤ 16777216 = narrow-normal-le c.args.n c.requires c.shift_nearest.result c.shift_nearest.ensures in
-    
     let n = c.args.n in
     let r = c.shift_nearest in
     let lo : 897 ≤ n / 4503599627370496 = c.if-exponent-ge897.true in
@@ -37,21 +36,16 @@ shift_nearest-requires-then-exponent-ge872 c = omega (arith, lead_is binary64 c.
 
 pub overflow_cast-result-then-exponent-ge872 : goal.overflow_cast-result-then-exponent-ge872
 overflow_cast-result-then-exponent-ge872 c =
-    let low-kept-le : c.shift_nearest-then-exponent-ge872.result ≤ 16777216 = 
-    
+    let low-kept-le : c.shift_nearest-then-exponent-ge872.result ≤ 16777216 =
     narrow-low-le c.args.n c.requires c.shift_nearest-then-exponent-ge872.result c.shift_nearest-then-exponent-ge872.ensures c.if-exponent-ge872.true c.if-exponent-ge897.false in
     omega (arith, low-kept-le)
 
 pub returns-then-exponent-ge872 : goal.returns-then-exponent-ge872
 returns-then-exponent-ge872 c =
-    let low-kept-le : c.shift_nearest-then-exponent-ge872.result ≤ 16777216 = 
-    
+    let low-kept-le : c.shift_nearest-then-exponent-ge872.result ≤ 16777216 =
     narrow-low-le c.args.n c.requires c.shift_nearest-then-exponent-ge872.result c.shift_nearest-then-exponent-ge872.ensures c.if-exponent-ge872.true c.if-exponent-ge897.false in
-    
-    
     let r = c.shift_nearest-then-exponent-ge872 in
     (narrow-low c.args.n c.requires r.result r.ensures c.if-exponent-ge872.true c.if-exponent-ge897.false, omega (arith, low-kept-le))
 
 pub returns : goal.returns
 returns c = (narrow-zero c.args.n c.requires c.if-exponent-ge872.false, lit≤ tt)
-

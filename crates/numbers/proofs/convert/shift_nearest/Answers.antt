@@ -28,4 +28,3 @@ overflow_add-result-2 c =
 
 pub returns : goal.returns
 returns c = shift-tie c.args.q c.args.k c.requires.1 c.if-twice-unit.false c.if-twice-unit-2.false
-

@@ -5,4 +5,3 @@ use Rattle.numbers.proofs.convert.widen_bits.Goals as goal
 
 pub returns : goal.returns
 returns c = c.to_bits64.ensures ∙ ap (to_bits binary64) (c.widen.ensures ∙ c.from_bits32.ensures)
-

@@ -9,4 +9,3 @@ returns-then-a-b c = rw c.if-a-b.true
 pub returns-else-a-b : goal.returns-else-a-b
 unfolding larger
 returns-else-a-b c = rw c.if-a-b.false
-

@@ -9,4 +9,3 @@ returns-then-b-a c = rw c.if-b-a.true
 pub returns-else-b-a : goal.returns-else-b-a
 unfolding smaller
 returns-else-b-a c = rw c.if-b-a.false
-

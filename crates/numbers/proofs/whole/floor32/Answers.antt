@@ -7,4 +7,3 @@ use Rattle.numbers.proofs.whole.floor32.Goals as goal
 pub returns-then-x-2 : goal.returns-then-x-2
 unfolding of_bits neg
 returns-then-x-2 c = unit-zero c.args.x (holds c.if-x.true) (holds c.if-x-2.true)
-

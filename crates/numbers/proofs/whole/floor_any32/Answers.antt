@@ -119,4 +119,3 @@ returns c =
     let x : Float = c.args.x in
     let held : T (fits binary32 c.args.x) = subst T (sym c.well_formed.0.1) tt in
     floor-nothing c.args.x held (neither binary32 c.args.x held (fails c.if-x.false) (fails c.if-x-3.false))
-

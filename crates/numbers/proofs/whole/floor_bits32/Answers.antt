@@ -6,4 +6,3 @@ use Rattle.numbers.proofs.whole.floor_bits32.Goals as goal
 
 pub returns : goal.returns
 returns c = c.to_bits32.ensures ∙ ap (to_bits binary32) (c.floor32.ensures ∙ ap (floor_of binary32) c.from_bits32.ensures)
-

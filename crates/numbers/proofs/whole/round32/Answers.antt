@@ -1,6 +1,6 @@
 -- `numbers::whole::round32` meets its contract: below 2^23 in size the sum rounds (`round-by-sum`), and from there on x stays (`round-stays`).
 -- Assumes nothing.
-use Rattle.std.proofs.Common.{◌≡◌, not, T, sym, ap, ◌∙◌, subst, ⊎_elim}
+use Rattle.std.proofs.Common.{◌≡◌, not, T, sym, ap, ◌∙◌, subst}
 use lib.Ieee.{Float, binary32, neg, add, sub, mul, lt, fits, of_bits}
 use Rattle.floats.proofs.Tests.{holds, fails}
 use Rattle.floats.proofs.SizeTests.{zero32}
@@ -26,4 +26,3 @@ unfolding of_bits
 returns c =
     let held : T (fits binary32 c.args.x) = subst T (sym c.well_formed.0.1) tt in
     round-stays binary32 c.args.x held (subst (λ (z : Float). T (not (lt z (limit binary32)))) c.larger-size.ensures (fails c.if-size.false))
-

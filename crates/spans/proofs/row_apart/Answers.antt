@@ -1,0 +1,16 @@
+-- `spans::row_apart` meets its contract: the picks of copy j. Assumes nothing.
+use Rattle.pick_lists.proofs.SoundLists.{sound-lists}
+use Rattle.pick_lists.proofs.CopyPicks.{copy-part, copy_some, copy-atoms}
+use Rattle.spans.proofs.row_apart.Goals as goal
+
+pub copy_picks-requires : goal.copy_picks-requires
+copy_picks-requires c = copy-part _ _ _ (sound-lists _ _ _ c.requires.picks_value) _ c.requires.j_bound
+
+pub spans_apart-requires : goal.spans_apart-requires
+spans_apart-requires c =
+    let l = sound-lists _ _ _ c.requires.picks_value in
+    let b = c.copy_picks.ensures in
+    record { b_nonzero = rw b (copy_some _ _ _ l _ c.requires.j_bound); by_index = rw b (copy-atoms _ _ _ l _ c.requires.j_bound) }
+
+pub returns : goal.returns
+returns c = rw (c.spans_apart.ensures, c.copy_picks.ensures)
