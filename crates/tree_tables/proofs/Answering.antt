@@ -16,13 +16,12 @@ use Rattle.base.specs.Tables.{over, first_numbers}
 use Rattle.bounds.specs.declared.OctreeBounds.{OctreeBounds}
 use Rattle.octree.specs.declared.Built.{Built}
 use Rattle.octree.specs.Tree.{Subtrees, none, where_some, subtree, tree_of, point_numbers, room_refusal, TreeTables, tree_tables, tables_after}
-use Rattle.octree.specs.Inner.{Numbered, built_answer, built_number, Filled, Planted}
+use Rattle.octree.specs.Inner.{Numbered, built_answer, built_number, Filled}
 use Rattle.nodes.specs.Nodes.{deepest, records_of, boxes_of}
-use Rattle.base.proofs.Placing.{placed-zero, length_none}
+use Rattle.base.proofs.Placing.{placed-zero}
 use Rattle.base.proofs.Filling.{numbers-length}
 use Rattle.octree.proofs.Children.{no-points, some-points}
 use Rattle.octree.proofs.Counting.{nodes-few}
-use Rattle.octree.proofs.Planting.{planted-at}
 
 -- a builder's answer b for a tree g of n centers and m waters, and the tables u that it leaves of t
 abbrev pub Answers : Built → ℕ → Subtrees → ℕ → ℕ → TreeTables → TreeTables → Type 0
@@ -48,7 +47,7 @@ module _ (b : OctreeBounds) (C W : List Float) (cs ws : List ℕ) (hc : Numbered
       tree-by
       ∙ no-points (subtree C W max_depth) 0 0 0 b (first_numbers (length cs)) (first_numbers (length ws)) (omega (arith, numbers-length (length cs), numbers-length (length ws)))
 
-  tree-some : (length cs + length ws ≡ 0 → ⊥) → (cs₁ ws₁ : List ℕ) → cs₁ ≡ first_numbers (length cs) → ws₁ ≡ first_numbers (length ws)
+  pub tree-some : (length cs + length ws ≡ 0 → ⊥) → (cs₁ ws₁ : List ℕ) → cs₁ ≡ first_numbers (length cs) → ws₁ ≡ first_numbers (length ws)
       → subtree C W max_depth 0 0 0 b cs₁ ws₁ ≡ tree_of b C W
   tree-some some cs₁ ws₁ p q =
       ap (λ (u : List ℕ). subtree C W max_depth 0 0 0 b u ws₁) p
@@ -57,15 +56,6 @@ module _ (b : OctreeBounds) (C W : List Float) (cs ws : List ℕ) (hc : Numbered
       (tree-by
       ∙ some-points (subtree C W max_depth) 0 0 0 b (first_numbers (length cs)) (first_numbers (length ws))
       (λ e. some (omega (arith, e, numbers-length (length cs), numbers-length (length ws)))))
-
-  -- what the builder promised at the root, of the whole tree, where there are points
-  pub at_root : {cs₁ ws₁ : List ℕ} {room : ℕ} {r : Built} {cs' ws' rec₀ rec : List ℕ} {box₀ box : List Float} → (length cs₁ + length ws₁ ≡ 0 → ⊥)
-      → cs₁ ≡ first_numbers (length cs) → ws₁ ≡ first_numbers (length ws)
-      → Planted room (subtree C W max_depth 0 0 0 b cs₁ ws₁) 0 r cs' ws' rec₀ rec box₀ box → Planted room (tree_of b C W) 0 r cs' ws' rec₀ rec box₀ box
-  at_root {cs₁} {ws₁} {room} {r} {cs'} {ws'} {rec₀} {rec} {box₀} {box} some p q h =
-      planted-at room _ 0 r cs' ws' rec₀ rec box₀ box (tree_of b C W)
-      (tree-some
-      (λ e. some (omega (arith, e, ap length p, ap length q, numbers-length (length cs), numbers-length (length ws)))) cs₁ ws₁ p q) h
 
   -- the cap on the room changes nothing
   module _ (R room : ℕ) (e : room ≡ min R most_nodes) where
@@ -81,10 +71,6 @@ module _ (b : OctreeBounds) (C W : List Float) (cs ws : List ℕ) (hc : Numbered
 -- tables are equal by their parts
 pub tables-same : {co co' wo wo' rec rec' : List ℕ} {box box' : List Float} → co ≡ co' → wo ≡ wo' → rec ≡ rec' → box ≡ box' → tree_tables co wo rec box ≡ tree_tables co' wo' rec' box'
 tables-same p q u v = rw (p, q, u, v)
-
--- two lists without entries
-pub empty : {x y : List ℕ} → length x ≡ length y → length x ≤ 0 → x ≡ y
-empty {x} {y} e h = length_none x h ∙ sym (length_none y (omega arith))
 
 -- a list that replaces a whole table
 over-whole : {A : Type 0} {x ys : List A} (t : List A) → x ≡ ys → length ys ≡ length t → x ≡ over ys t

@@ -1,0 +1,19 @@
+-- `tree` meets its contract: a refusal has no values, and an answer's counts stand in the table as words. Assumes nothing.
+use mathlib.Core.Path.{refl, ap, ◌∙◌}
+use mathlib.Core.List.{List}
+use Prim.Native.Nat.{ℕ}
+use Rattle.answers.specs.Interface.{answers_after}
+use Rattle.answers.proofs.Writing.{none_written, next_word}
+use Rattle.answers.proofs.tree.Goals as goal
+
+pub word-requires : goal.word-requires
+word-requires c = rw (c.a-in-Nodes-1.given.1, start) at (c.requires 0)
+
+pub word-requires-in-Nodes : goal.word-requires-in-Nodes
+word-requires-in-Nodes c = rw (c.a-in-Nodes-1.given.1, start) at (c.requires 1)
+
+pub returns-in-Refused : goal.returns-in-Refused
+returns-in-Refused c = rw c.a-1.given.1 (record { number = refl; answers_after = none_written _ })
+
+pub returns-in-Nodes : goal.returns-in-Nodes
+returns-in-Nodes c = rw c.a-in-Nodes-1.given.1 (record { number = refl; answers_after = c.words.ensures ∙ ap (λ (l : List ℕ). answers_after l c.args.answers.now) (next_word c.word.ensures (next_word c.word-in-Nodes.ensures refl)) })
