@@ -1,5 +1,6 @@
 // How the C interface takes a cell and gives an answer: each enum by its number, and its values as words of the lent answers table.
 #![tactic(auto)]
+
 ghost use Rattle.std.specs.Prelude.{◌≡◌, ◌<◌, min};
 ghost use Rattle.base.specs.Refusals.{answer_number};
 ghost use Rattle.selection.specs.Selection.{select_number, select_values};

@@ -18,7 +18,7 @@ use Rattle.union_find.proofs.Forest.{decide}
 use Rattle.base.proofs.Tests.{and-false}
 use Rattle.cluster_table.specs.Table.{parents, words, opened}
 use Rattle.cluster_table.specs.Refusals.{row_table_refusals}
-use Rattle.cluster_table.proofs.RowChecks.{Asked, row-asked}
+use Rattle.cluster_table.proofs.RowChecks.{row-asked}
 use Rattle.clusters.specs.Answers.{row_table}
 use Rattle.clusters.specs.Graph.{Largest, graph, contact_graph}
 use Rattle.clusters.specs.Order.{is_accepted}

@@ -10,7 +10,7 @@ use native.Mathlib.Omega.{arith}
 use native.Mathlib.Decide.{dec_le}
 use lib.ListN.{length}
 use lib.Dec.{eqb, ltb, leb}
-use lib.Ieee.{Float, binary32, to_bits}
+use lib.Ieee.{Float}
 use borrow.Author.Tests.{lt-ltb, le-ltb, le-leb, lt-leb}
 use Rattle.base.specs.Limits.{max_copies}
 use Rattle.base.specs.Refusals.{refuse, first_refusal}
@@ -19,7 +19,7 @@ use Rattle.union_find.specs.Parents.{largest_set}
 use Rattle.union_find.proofs.Forest.{sound-parents}
 use Rattle.base.proofs.Ranges.{all_true, all-false, all_same, count_same}
 use Rattle.base.proofs.Tests.{bit_le}
-use Rattle.cell.specs.Reach.{reach, sound_reach}
+use Rattle.cell.specs.Reach.{reach}
 use Rattle.cluster_table.specs.Table.{parents, degree, mark, words, sound_words, sound_table}
 use Rattle.cluster_table.specs.Refusals.{other_cutoff, row_table_refusals}
 use Rattle.cluster_table.specs.Fractions.{three_fractions, table_fractions}

@@ -2,7 +2,7 @@
 -- accepted so far, so at each point of the list every call answers by that graph. An accepted row has the bits of the opening's cutoff, and so, both
 -- being an f32, that very cutoff. Assumes nothing.
 use mathlib.Core.Path.{◌≡◌, refl, sym, ap, ◌∙◌, subst}
-use mathlib.Core.Bool.{Bool, true, false, true≢false, cond, not, ◌&&◌, ◌||◌, or_assoc, or-false}
+use mathlib.Core.Bool.{Bool, true, false, true≢false, cond, not, ◌||◌, or_assoc, or-false}
 use mathlib.Core.Logic.{inl, inr}
 use mathlib.Core.List.{List, [], ◌∷◌, ◌++◌}
 use Prim.Native.Nat.{ℕ, zero, suc, ◌≤◌, ◌<◌}

@@ -1,6 +1,7 @@
 // The text that program `frame` prints for a frame that was read (docs/RULES.md): the whole frame is worked out in tables of the program's
 // sizes, and its answer listed. Beside what the whole frame keeps on its stack there are these tables, about 350,000 bytes.
 #![tactic(auto)]
+
 ghost use Rattle.std.specs.Prelude.{◌≡◌, false, ◌+◌, replicate};
 ghost use Rattle.base.specs.Limits.{max_copies};
 ghost use Rattle.floats.specs.Constants.{zero32};

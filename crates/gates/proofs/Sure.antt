@@ -84,8 +84,8 @@ pub certified-sure : (k : Float) (t : ℕ) (e : Float) → sound_reach k ≡ tru
 unfolding certified
 certified-sure k t e K small E h =
     let g = ends_at (gate_start k) t e in
-    let p = both (short g.r) (short g.u && holds_at k (turn t) (turn (t + 1)) g.r g.u e) h in
-    let q = both (short g.u) (holds_at k (turn t) (turn (t + 1)) g.r g.u e) p.1 in
+    let p = both _ _ h in
+    let q = both _ _ p.1 in
     let wr = short-within g.r p.0 in
     let wu = short-within g.u q.0 in
     let up : (d : Float) → Within (2 ^ 21) d → T (le g.r d) → T (le d g.u) → Apart k d e = λ d w. turn-apart k t g.r g.u e d (cutoff-finite k K) small E wr wu w q.1 in

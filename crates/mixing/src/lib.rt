@@ -1,6 +1,7 @@
 // The whole frame (docs/RULES.md, 'Whole frame'): the input is tested once, all lengths are known before the first write, and then the
 // unchecked cores of Select, Open, Row, Close, Dispersion and Report run. Beside the lent tables it keeps on its stack what they keep.
 #![tactic(auto)]
+
 ghost use Rattle.std.specs.Prelude.{◌≡◌};
 ghost use Rattle.mixing.specs.Frame.{frame_of, frame_tables, frame_answer, frame_after};
 ghost use Rattle.mixing.specs.Inner.{with_report};

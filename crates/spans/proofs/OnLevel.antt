@@ -7,10 +7,8 @@ use Prim.Native.Nat.{ℕ, ◌^◌, ◌≤◌, ◌<◌}
 use native.Mathlib.Omega.{arith}
 use lib.Dec.{T}
 use lib.ListN.{length, get_or, drop}
-use lib.Ieee.{Float, binary32, neg, sub, mul, lt, le}
+use lib.Ieee.{Float, binary32, sub, mul, le}
 use lib.Ieee.Scale.{finite}
-use Rattle.floats.specs.Constants.{zero32}
-use Rattle.floats.specs.Order.{larger}
 use Rattle.floats.proofs.Tests.{holds, both}
 use Rattle.floats.proofs.Bounds.{Within}
 use Rattle.floats.proofs.Signed.{lt_not_le}
@@ -27,7 +25,7 @@ use Rattle.gates.proofs.Levels.{Same, level-image, level-clear, sized_on, same-s
 use Rattle.gates.proofs.Atoms.{apart-around, image-around, apart-x, apart-y, apart-z}
 use Rattle.spans.specs.declared.Span.{Span}
 use Rattle.spans.specs.declared.Level.{Level}
-use Rattle.spans.specs.Inner.{span_of, point_span, apart_by, level_axis, level_of, clear_by, passed_over, over_axis, near_by, near_on}
+use Rattle.spans.specs.Inner.{span_of, point_span, level_axis, level_of, clear_by, passed_over, over_axis, near_by, near_on}
 use Rattle.spans.proofs.Between.{Between, separated, itself, Inside, some-axis, pick-inside, none_in, Finite, begins}
 
 -- ---- one axis: p from p₀ to p₁, q from q₀ to q₁
@@ -51,10 +49,8 @@ module _ (e p₀ p p₁ q₀ q q₁ : Float) (E : Axis e) (P : Between p₀ p p�
       let low = separated p₀ p p₁ q₀ q₀ q₁ P (first Q) in
       let high = separated p₀ p p₁ q₀ q₁ q₁ P (last Q) in
       let pt = separated p p p q₀ q q₁ own Q in
-      let by = mul binary32 e (turns_of (sub binary32 q₀ p₁) e) in
-      let gap = larger (sub binary32 (sub binary32 q₀ p) by) (neg (sub binary32 (sub binary32 q₁ p) by)) in
-      let on = both (level_axis e (sub binary32 q₀ p₁) (sub binary32 q₁ p₀)) (lt zero32 gap && lt (cutoff2 k) (mul binary32 gap gap)) t in
-      let g = both (lt zero32 gap) (lt (cutoff2 k) (mul binary32 gap gap)) on.1 in
+      let on = both _ _ t in
+      let g = both _ _ on.1 in
       level-clear (sub binary32 q₀ p₁) (sub binary32 q₁ p₀) e E s.lo-in s.hi-in (level-is on.0) k (sub binary32 q₀ p) (sub binary32 q p) (sub binary32 q₁ p) fk pt.lo-in s.d-in pt.hi-in
       low.from pt.from pt.to high.to (holds g.0) (holds g.1)
     where

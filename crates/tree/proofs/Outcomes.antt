@@ -23,7 +23,6 @@ use Rattle.octree.specs.Tree.{Subtrees, TreeTables, tree_tables, tables_after}
 use Rattle.octree.specs.Inner.{built_answer, built_number}
 use Rattle.tree_tables.proofs.Answering.{Answers, tables-same, built-told}
 use Rattle.points.specs.Points.{tree_centers, tree_waters, finite_waters}
-use Rattle.tree.specs.declared.TreeAnswer as TreeAnswer
 use Rattle.tree.specs.declared.TreeAnswer.{TreeAnswer}
 use Rattle.tree.specs.Tree.{frame_tree, whole_records, tree_refusal, tree_answer, tree_number, input_after, tree_after}
 use Rattle.tree.specs.Inner.{tree_over, tree_on}

@@ -14,7 +14,6 @@ use Rattle.division.specs.Split.{max_depth}
 use Rattle.base.specs.Refusals.{first_refusal}
 use Rattle.base.specs.Tables.{over, first_numbers}
 use Rattle.bounds.specs.declared.OctreeBounds.{OctreeBounds}
-use Rattle.octree.specs.declared.Built as Built
 use Rattle.octree.specs.declared.Built.{Built}
 use Rattle.octree.specs.Tree.{Subtrees, none, where_some, subtree, tree_of, point_numbers, room_refusal, TreeTables, tree_tables, tables_after}
 use Rattle.octree.specs.Inner.{Numbered, built_answer, built_number, Filled}

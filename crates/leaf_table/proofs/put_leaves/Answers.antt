@@ -1,6 +1,5 @@
 -- What is left to prove of `put_leaves`. Assumes nothing.
 use mathlib.Core.Path.{sym, ◌∙◌}
-use Prim.Native.Nat.{◌-◌}
 use native.Mathlib.Omega.{arith}
 use Rattle.leaf_table.specs.Inner.{node_at}
 use Rattle.leaf_table.proofs.LeafList.{reporting-first, reporting-room, reporting-leaf, reporting-skip, reporting-last}
@@ -31,8 +30,8 @@ loop-i-preserved c =
     let less = c.loop-i-test.true in
     let test = sym c.is_reported.ensures in
     elim c.if-is_reported.branch [
-      then-is_reported w ↦ rw (w.leaves-is, w.dry-is, w.reported-is, w.put_leaf.ensures, w.dry_bit-dry.ensures.is) (reporting-leaf less (test ∙ w.if-is_reported.true) c.loop-i.invariant)
-    | else-is_reported w ↦ rw (w.leaves-is, w.dry-is, w.reported-is) (reporting-skip less (test ∙ w.if-is_reported.false) c.loop-i.invariant)
+      | then-is_reported w ↦ rw (w.leaves-is, w.dry-is, w.reported-is, w.put_leaf.ensures, w.dry_bit-dry.ensures.is) (reporting-leaf less (test ∙ w.if-is_reported.true) c.loop-i.invariant)
+      | else-is_reported w ↦ rw (w.leaves-is, w.dry-is, w.reported-is) (reporting-skip less (test ∙ w.if-is_reported.false) c.loop-i.invariant)
     ]
 
 pub shape_of-leaves : goal.shape_of-leaves

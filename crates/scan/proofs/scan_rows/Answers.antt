@@ -1,6 +1,5 @@
 -- What is left to prove of `scan_rows`. Assumes nothing.
 use mathlib.Core.Path.{refl}
-use Prim.Native.Nat.{◌-◌}
 use native.Mathlib.Omega.{arith}
 use native.Mathlib.Numerals.{add-one}
 use Rattle.pick_lists.proofs.SoundLists.{sound-lists}

@@ -1,6 +1,5 @@
 -- What is left to prove of `fill_axis`. Assumes nothing.
 use mathlib.Core.Path.{◌∙◌, ap}
-use Prim.Native.Nat.{◌-◌}
 use native.Mathlib.Omega.{arith}
 use lib.ListN.{length-set}
 use Rattle.pick_lists.proofs.SoundLists.{sound-lists}

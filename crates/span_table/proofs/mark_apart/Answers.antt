@@ -1,7 +1,6 @@
 -- What is left to prove of `mark_apart`. Assumes nothing.
 use mathlib.Core.Path.{ap, ap₂, ◌∙◌}
 use mathlib.Core.Bool.{Bool, cond}
-use Prim.Native.Nat.{◌-◌}
 use Rattle.spans.specs.declared.Span.{Span}
 use Rattle.span_table.specs.Inner.{apart_marks}
 use Rattle.span_table.proofs.Flags.{marked-first, marked_next, marked-last}

@@ -1,6 +1,5 @@
 -- What is left to prove of `ends_of`. Assumes nothing.
 use mathlib.Core.Path.{sym, ◌∙◌}
-use Prim.Native.Nat.{◌-◌}
 use native.Mathlib.Omega.{arith}
 use Rattle.spans.proofs.Least.{least_first, least-next, least-last, greatest-first, greatest-next, greatest-last}
 use Rattle.spans.proofs.ends_of.Goals as goal

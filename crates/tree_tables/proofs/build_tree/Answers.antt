@@ -7,7 +7,7 @@ use Prim.Native.Nat.{ℕ, ◌+◌, ◌≤◌, min}
 use lib.ListN.{length, replicate}
 use lib.Ieee.{binary32, of_bits}
 use Rattle.octree.specs.Tree.{Subtrees, tree_of, TreeTables, tree_tables}
-use Rattle.octree.specs.Inner.{tree_room, Planted}
+use Rattle.octree.specs.Inner.{tree_room}
 use Rattle.base.specs.Tables.{first_numbers}
 use Rattle.base.proofs.Placing.{length_none}
 use Rattle.octree.proofs.Planting.{full-of, filled_of, planted-at}

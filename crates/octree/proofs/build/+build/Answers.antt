@@ -4,7 +4,7 @@ use borrow.Author.Rules.{rules}
 use native.Mathlib.Omega.{arith}
 use mathlib.Core.Path.{◌≡◌, refl, ap, ◌∙◌}
 use mathlib.Core.Logic.{inr}
-use Prim.Native.Nat.{◌+◌, ◌-◌, max}
+use Prim.Native.Nat.{◌+◌, ◌-◌, ◌<◌, max}
 use Rattle.division.specs.Split.{max_depth}
 use Rattle.octree.proofs.Children.{subtree-by, subtree-roots, subtree-some}
 use Rattle.octree.proofs.Growing.{visited, next-c, next-w, begin, step-empty, step-child, child-full}
@@ -30,7 +30,8 @@ loop-left-init t c =
 pub overflow_add-nc : goal.overflow_add-nc
 overflow_add-nc t c =
     let i = c.loop-left.invariant in
-    let v = visited i.grows c.divide-left.ensures.centers c.divide-left.ensures.waters c.loop-left-test.true i.turns-ok i.less in
+    let some : 0 < c.loop-left.left = omega (arith, c.loop-left-test.true) in
+    let v = visited i.grows c.divide-left.ensures.centers c.divide-left.ensures.waters some i.turns-ok i.less in
     let kc = child-within (next-c i.grows v) in
     let kw = child-within (next-w i.grows v) in
     omega (arith, kc, kw)
@@ -39,34 +40,39 @@ overflow_add-nc t c =
 pub loop-left-preserved-then-nc-nw-eq0 : goal.loop-left-preserved-then-nc-nw-eq0
 loop-left-preserved-then-nc-nw-eq0 t c =
     let i = c.loop-left.invariant in
-    let v = visited i.grows c.divide-left.ensures.centers c.divide-left.ensures.waters c.loop-left-test.true i.turns-ok i.less in
-    record { grows = step-empty i.grows v c.if-nc-nw-eq0.true; turns-ok = omega (arith, i.turns-ok); less = omega (arith, i.less) }
+    let some : 0 < c.loop-left.left = omega (arith, c.loop-left-test.true) in
+    let v = visited i.grows c.divide-left.ensures.centers c.divide-left.ensures.waters some i.turns-ok i.less in
+    record { grows = step-empty i.grows v (omega (arith, c.if-nc-nw-eq0.true)); turns-ok = omega (arith, i.turns-ok); less = omega (arith, i.less) }
 
 pub overflow_add-ce : goal.overflow_add-ce
 overflow_add-ce t c =
     let i = c.loop-left.invariant in
-    let v = visited i.grows c.divide-left.ensures.centers c.divide-left.ensures.waters c.loop-left-test.true i.turns-ok i.less in
+    let some : 0 < c.loop-left.left = omega (arith, c.loop-left-test.true) in
+    let v = visited i.grows c.divide-left.ensures.centers c.divide-left.ensures.waters some i.turns-ok i.less in
     let kc = child-within (next-c i.grows v) in
     omega (arith, kc)
 
 pub overflow_add-we : goal.overflow_add-we
 overflow_add-we t c =
     let i = c.loop-left.invariant in
-    let v = visited i.grows c.divide-left.ensures.centers c.divide-left.ensures.waters c.loop-left-test.true i.turns-ok i.less in
+    let some : 0 < c.loop-left.left = omega (arith, c.loop-left-test.true) in
+    let v = visited i.grows c.divide-left.ensures.centers c.divide-left.ensures.waters some i.turns-ok i.less in
     let kw = child-within (next-w i.grows v) in
     omega (arith, kw)
 
 pub slice_bounds-build-end : goal.slice_bounds-build-end
 slice_bounds-build-end t c =
     let i = c.loop-left.invariant in
-    let v = visited i.grows c.divide-left.ensures.centers c.divide-left.ensures.waters c.loop-left-test.true i.turns-ok i.less in
+    let some : 0 < c.loop-left.left = omega (arith, c.loop-left-test.true) in
+    let v = visited i.grows c.divide-left.ensures.centers c.divide-left.ensures.waters some i.turns-ok i.less in
     let kc = child-within (next-c i.grows v) in
     search rules
 
 pub slice_bounds-build-end-in-loop-left : goal.slice_bounds-build-end-in-loop-left
 slice_bounds-build-end-in-loop-left t c =
     let i = c.loop-left.invariant in
-    let v = visited i.grows c.divide-left.ensures.centers c.divide-left.ensures.waters c.loop-left-test.true i.turns-ok i.less in
+    let some : 0 < c.loop-left.left = omega (arith, c.loop-left-test.true) in
+    let v = visited i.grows c.divide-left.ensures.centers c.divide-left.ensures.waters some i.turns-ok i.less in
     let kw = child-within (next-w i.grows v) in
     search rules
 
@@ -75,7 +81,8 @@ pub returns-in_default : goal.returns-in_default
 returns-in_default t c =
     let g = c.args in
     let i = c.loop-left.invariant in
-    let v = visited i.grows c.divide-left.ensures.centers c.divide-left.ensures.waters c.loop-left-test.true i.turns-ok i.less in
+    let some : 0 < c.loop-left.left = omega (arith, c.loop-left-test.true) in
+    let v = visited i.grows c.divide-left.ensures.centers c.divide-left.ensures.waters some i.turns-ok i.less in
     let h = full-of _ _ _ _ _ _ _ _ _ _ (planted i.grows v c.child.ensures c.in_default.ensures) refl in
     inr (rw (subtree-by g.centers.now g.waters.now g.at g.fc g.fw g.b g.corder.now g.worder.now g.depth c.divide-left.result c.requires.depth-ok c.divide-left.ensures.is) (child-full i.grows v c.if-nc-nw-eq0.false h), refl)
 
@@ -84,7 +91,8 @@ pub loop-left-preserved : goal.loop-left-preserved
 loop-left-preserved t c =
     let g = c.args in
     let i = c.loop-left.invariant in
-    let v = visited i.grows c.divide-left.ensures.centers c.divide-left.ensures.waters c.loop-left-test.true i.turns-ok i.less in
+    let some : 0 < c.loop-left.left = omega (arith, c.loop-left-test.true) in
+    let v = visited i.grows c.divide-left.ensures.centers c.divide-left.ensures.waters some i.turns-ok i.less in
     let f = filled_of _ _ _ _ _ _ _ _ _ _ (planted i.grows v c.child.ensures c.in-Nodes.ensures) c.in-Nodes.n c.in-Nodes.d refl in
     record {
       grows =
