@@ -8,8 +8,8 @@ use Rattle.answers.proofs.dispersed.Goals as goal
 
 pub returns-in-Refused : goal.returns-in-Refused
 unfolding bits_of
-returns-in-Refused c = rw c.a-1.given.1 (record { number = refl; answers_after = none_written _ })
+returns-in-Refused c = rw c.in-Refused.is (record { number = refl; answers_after = none_written _ })
 
 pub returns-in-Score : goal.returns-in-Score
 unfolding bits_of
-returns-in-Score c = rw c.a-in-Score-1.given.1 (record { number = refl; answers_after = c.words.ensures ∙ ap (λ (l : List ℕ). answers_after l c.args.answers.now) (next_word c.to_bits32.ensures refl) })
+returns-in-Score c = rw c.in-Score.is (record { number = refl; answers_after = c.words.ensures ∙ ap (λ (l : List ℕ). answers_after l c.args.answers.now) (next_word c.to_bits32.ensures refl) })

@@ -3,4 +3,4 @@ use mathlib.Core.Path.{refl}
 use Rattle.answers.proofs.number.Goals as goal
 
 pub returns-in-Refused : goal.returns-in-Refused
-returns-in-Refused c = rw c.a-1.given.1 refl
+returns-in-Refused c = rw c.in-Refused.is refl

@@ -7,13 +7,13 @@ use Rattle.answers.proofs.Writing.{none_written, next_word}
 use Rattle.answers.proofs.tree.Goals as goal
 
 pub word-requires : goal.word-requires
-word-requires c = rw (c.a-in-Nodes-1.given.1, start) at (c.requires 0)
+word-requires c = rw c.in-Nodes.is at (c.requires 0)
 
 pub word-requires-in-Nodes : goal.word-requires-in-Nodes
-word-requires-in-Nodes c = rw (c.a-in-Nodes-1.given.1, start) at (c.requires 1)
+word-requires-in-Nodes c = rw c.in-Nodes.is at (c.requires 1)
 
 pub returns-in-Refused : goal.returns-in-Refused
-returns-in-Refused c = rw c.a-1.given.1 (record { number = refl; answers_after = none_written _ })
+returns-in-Refused c = rw c.in-Refused.is (record { number = refl; answers_after = none_written _ })
 
 pub returns-in-Nodes : goal.returns-in-Nodes
-returns-in-Nodes c = rw c.a-in-Nodes-1.given.1 (record { number = refl; answers_after = c.words.ensures ∙ ap (λ (l : List ℕ). answers_after l c.args.answers.now) (next_word c.word.ensures (next_word c.word-in-Nodes.ensures refl)) })
+returns-in-Nodes c = rw c.in-Nodes.is (record { number = refl; answers_after = c.words.ensures ∙ ap (λ (l : List ℕ). answers_after l c.args.answers.now) (next_word c.word.ensures (next_word c.word-in-Nodes.ensures refl)) })

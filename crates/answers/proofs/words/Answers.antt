@@ -1,8 +1,11 @@
 -- What is left to prove of `words`. Assumes nothing.
 use native.Mathlib.Omega.{arith}
 use Prim.Native.Nat.{◌-◌}
-use Rattle.answers.proofs.Writing.{written_next, written_last}
+use Rattle.answers.proofs.Writing.{written-first, written_next, written_last}
 use Rattle.answers.proofs.words.Goals as goal
+
+pub loop-i-init : goal.loop-i-init
+loop-i-init c = written-first _ _
 
 pub loop-i-preserved : goal.loop-i-preserved
 loop-i-preserved c =
