@@ -1,6 +1,5 @@
 -- What is left to prove of `words`. Assumes nothing.
 use native.Mathlib.Omega.{arith}
-use Prim.Native.Nat.{◌-◌}
 use Rattle.answers.proofs.Writing.{written-first, written_next, written_last}
 use Rattle.answers.proofs.words.Goals as goal
 
