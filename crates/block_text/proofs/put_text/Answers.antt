@@ -11,17 +11,15 @@ use Rattle.block_text.proofs.put_text.Goals as goal
 
 pub returns-in-Written : goal.returns-in-Written
 returns-in-Written c =
-    let b = c.args.bytes.now in
-    let fits = printed-fits b in
-    let w = whole (printed b) _ (search (rules, fits)) (rw c.n-1.given.1 at c.put_block.ensures) in
-    let n : c.n-1.given.0.0 ≡ length (printed b) = cc in
+    let fits = printed-fits c.args.bytes.now in
+    let w = whole (printed c.args.bytes.now) _ (search (rules, fits)) c.put_block.ensures in
+    let n : c.in-Written.n ≡ length (printed c.args.bytes.now) = cc in
     let same : length c.put_block.new.out ≡ text_room = search rules in
     record { written = (n, omega (arith, n, fits, same)); after = w.1 }
 
 pub returns-in-Refused : goal.returns-in-Refused
 returns-in-Refused c =
-    let b = c.args.bytes.now in
-    let fits = printed-fits b in
-    let w = whole (printed b) _ (search (rules, fits)) (rw c.enum_told-1.given.1 at c.put_block.ensures) in
+    let fits = printed-fits c.args.bytes.now in
+    let w = whole (printed c.args.bytes.now) _ (search (rules, fits)) c.put_block.ensures in
     let never : ◌≡◌ {A = ℕ} 0 1 = cc in
     absurd (omega (arith, never))
