@@ -59,8 +59,8 @@ module _ (b is : List ℕ) (ss ws : List Float) (li : length is ≡ 14988) (ls :
   refused-14 n is₁ ss₁ ws₁ o = by-block (is_block b) refl
     where
       by-block : (x : Bool) → is_block b ≡ x → refused_text n ≡ cond x (frame_text (frame_in b) program_tables) (refused_text 14)
-      by-block true e = let t = (taken b is ss ws (none e)).0 in let z : ◌≡◌ {A = ℕ} 0 1 = cc in absurd (omega arith)
-      by-block false e = let t = (refused b is ss ws 13 (no_block b is ss ws e)).0 in let z : n ≡ 14 = cc in ap refused_text z
+      by-block true e = let t = (taken b is ss ws (none e)).answer in let z : ◌≡◌ {A = ℕ} 0 1 = cc in absurd (omega arith)
+      by-block false e = let t = (refused b is ss ws 13 (no_block b is ss ws e)).answer in let z : n ≡ 14 = cc in ap refused_text z
 
   -- a frame is the block's
   pub read-frame : (per s k w : ℕ) (c : Cell) (is₁ : List ℕ) (ss₁ ws₁ : List Float) → Owed b is ss ws (Frame per s k w c) is₁ ss₁ ws₁
@@ -81,7 +81,7 @@ module _ (b is : List ℕ) (ss ws : List Float) (li : length is ≡ 14988) (ls :
             solutes-are = cc;
             waters-are = cc;
           }
-      by-block false e = let t = (refused b is ss ws 13 (no_block b is ss ws e)).0 in let z : ◌≡◌ {A = ℕ} 0 1 = cc in absurd (omega arith)
+      by-block false e = let t = (refused b is ss ws 13 (no_block b is ss ws e)).answer in let z : ◌≡◌ {A = ℕ} 0 1 = cc in absurd (omega arith)
 
 -- ---- the parts, as they are handed on
 module _ {b is : List ℕ} {ss ws : List Float} {per s k w : ℕ} {c : Cell} {is₁ : List ℕ} {ss₁ ws₁ : List Float} (r : Read b is ss ws per s k w c is₁ ss₁ ws₁) where

@@ -1,6 +1,7 @@
 // The text that program `frame` prints for a block (docs/RULES.md): the block is read, the whole frame worked out, and its answer listed.
 // Beside what `frame_text` keeps on its stack there are the tables of the block, about 180,000 bytes.
 #![tactic(auto)]
+
 ghost use Rattle.std.specs.Prelude.{◌≡◌, false, ◌≤◌, length};
 ghost use Rattle.base.specs.Tables.{over};
 ghost use Rattle.listing.specs.Listing.{text_answer, text_after};

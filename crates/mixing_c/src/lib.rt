@@ -1,6 +1,7 @@
 // The C interface: every call of docs/RULES.md over numbers and slices, as include/baithrum.h declares it. The result is the refusal's
 // number, 0 for success. The values of an answer go to the lent table `answers`, as many of them as it holds, floats as bits.
 #![tactic(auto)]
+
 ghost use Rattle.std.specs.Prelude.{◌≡◌, []};
 ghost use Rattle.pick_lists.specs.Input.{given};
 ghost use Rattle.selection.specs.Selection.{select_refusal, select_answer, select_values, starts_after, picks_after};
