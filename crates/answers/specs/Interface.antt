@@ -1,12 +1,12 @@
 -- The C interface: a cell is six numbers, and the values of a call's answer are words in a lent table. Which values an answer has is each
 -- call's own definition. Definitions only. Assumes nothing.
-use Rattle.std.specs.Prelude.{List, [], ◌∷◌, ℕ, ◌^◌, ◌<◌, length, get_or, take, replicate, Float}
+use Rattle.std.specs.Prelude.{List, [], ◌∷◌, ℕ, ◌^◌, ◌<◌, length, get_or, take, replicate, Float, Result, Ok, Err, Option, Some, None}
 use Rattle.std.specs.Float.{binary32}
 use Rattle.std.specs.Float.Ieee.{to_bits}
 use Rattle.cell.specs.declared.Cell.{Cell}
 use Rattle.base.specs.Tables.{over}
-use Rattle.mixing.specs.declared.FrameAnswer.{FrameAnswer}
-use Rattle.mixing.specs.declared.FrameAnswer.TheVariants.{Refused, Blank, Mixed}
+use Rattle.base.specs.declared.Refused.{Refused}
+use Rattle.mixing.specs.declared.Mixture.{Mixture}
 
 -- low x y z, high x y z
 abbrev pub cell_of : Float → Float → Float → Float → Float → Float → Cell
@@ -28,26 +28,26 @@ unfolding over
 answers_after values answers = over (take (length answers) values) answers
 
 -- the whole frame's counts: copies, picks, nodes, greatest depth, reported leaves, dry leaves; none with a refusal or blank
-abbrev pub frame_counts : FrameAnswer → List ℕ
-frame_counts (Refused n) = []
-frame_counts Blank = []
-frame_counts (Mixed copies picks largest contacted pair dispersion nodes depth leaves dry) = copies ∷ picks ∷ nodes ∷ depth ∷ leaves ∷ dry ∷ []
+abbrev pub frame_counts : Result (Option Mixture) Refused → List ℕ
+frame_counts (Err e) = []
+frame_counts (Ok None) = []
+frame_counts (Ok (Some m)) = m.counted.copies ∷ m.counted.picks ∷ m.report.nodes ∷ m.report.depth ∷ m.report.leaves ∷ m.report.dry ∷ []
 
 -- its words: blank (1 or 0), copies, picks, the largest, contacted and pair fractions and the dispersion as bits, nodes, greatest depth,
 -- reported leaves, dry leaves; zeros after the 1 of a blank frame, and none with a refusal
-unfoldable pub frame_words : FrameAnswer → List ℕ
-frame_words (Refused n) = []
-frame_words Blank = 1 ∷ replicate 10 0
-frame_words (Mixed copies picks largest contacted pair dispersion nodes depth leaves dry) =
+unfoldable pub frame_words : Result (Option Mixture) Refused → List ℕ
+frame_words (Err e) = []
+frame_words (Ok None) = 1 ∷ replicate 10 0
+frame_words (Ok (Some m)) =
     0
-    ∷ copies
-    ∷ picks
-    ∷ to_bits binary32 largest
-    ∷ to_bits binary32 contacted
-    ∷ to_bits binary32 pair
-    ∷ to_bits binary32 dispersion
-    ∷ nodes
-    ∷ depth
-    ∷ leaves
-    ∷ dry
+    ∷ m.counted.copies
+    ∷ m.counted.picks
+    ∷ to_bits binary32 m.fractions.largest
+    ∷ to_bits binary32 m.fractions.contacted
+    ∷ to_bits binary32 m.fractions.pair
+    ∷ to_bits binary32 m.dispersion
+    ∷ m.report.nodes
+    ∷ m.report.depth
+    ∷ m.report.leaves
+    ∷ m.report.dry
     ∷ []

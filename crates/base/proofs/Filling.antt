@@ -1,16 +1,16 @@
 -- Loops that write a list into a table: from an entry on, an entry or a list at a time (`Filling`), or element i at turn i, over the whole table.
 -- Assumes nothing.
-use mathlib.Core.Path.{◌≡◌, refl, sym, ap, subst, ◌∙◌}
+use mathlib.Core.Path.{◌≡◌, refl, sym, ap, ◌∙◌}
 use mathlib.Core.Logic.{◌⊎◌, inl, inr}
 use mathlib.Core.List.{List, [], ◌∷◌, ◌++◌}
 use Prim.Native.Nat.{ℕ, zero, suc, ◌+◌, ◌≤◌, ◌<◌}
 use native.Mathlib.Nat.{add-zero, not-suc-le-zero, eq-or-lt_of_le, le_of_suc-le-suc}
 use native.Mathlib.Numerals.{add-one}
 use native.Mathlib.Omega.{arith}
-use lib.ListN.{length, get_or, take, drop, set, replicate, length-set, length-append, drop_of_length-le, get_or-append}
-use lib.Seq.{take-suc-set, take_all, drop-cons, get_or-append-add}
-use Rattle.base.specs.Tables.{placed, over, first_numbers}
-use Rattle.base.proofs.Placing.{placed-none, placed-zero, placed-step, placed-append, length-placed}
+use lib.ListN.{length, get_or, take, set, length-set, length-append, get_or-append}
+use lib.Seq.{take-suc-set, take_all, get_or-append-add}
+use Rattle.base.specs.Tables.{placed, first_numbers}
+use Rattle.base.proofs.Placing.{placed-none, placed-step, placed-append, length-placed}
 
 -- ---- a loop that writes the list `all` into the table t₀ from entry `at` on: now the table is t, and `rest` is still to be written
 -- from entry `end` on
@@ -55,16 +55,6 @@ module _ {A : Type 0} {at : ℕ} {all t₀ : List A} where
   pub filling-last : {end : ℕ} {t : List A} → Filling at all t₀ end [] t → t ≡ placed at all t₀
   filling-last {end} {t} z = sym (placed-none end t) ∙ z.table
 
--- a loop that writes the list `all` from the table's start, each entry by its index
-pub filling-at : {A : Type 0} {all t₀ : List A} (d : A) {e : ℕ} {v : A} {t : List A} → Filling 0 all t₀ e (drop e all) t → e < length all → get_or all e d ≡ v
-    → Filling 0 all t₀ (e + 1) (drop (e + 1) all) (set t e v)
-filling-at {all = all} {t₀ = t₀} d {e} {v} {t} z l q =
-    filling-next (subst (λ (r : List _). Filling 0 all t₀ e r t) (drop-cons all e d l ∙ ap (λ x. x ∷ drop (suc e) all) q ∙ ap (λ (k : ℕ). v ∷ drop k all) (sym (add-one e))) z)
-
-pub filling-all : {A : Type 0} {all t₀ : List A} {e : ℕ} {t : List A} → Filling 0 all t₀ e (drop e all) t → length all ≤ e → t ≡ over all t₀
-filling-all {all = all} {t₀ = t₀} {e} {t} z l =
-    filling-last (subst (λ (r : List _). Filling 0 all t₀ e r t) (drop_of_length-le all l) z) ∙ placed-zero all t₀
-
 -- ---- a loop that writes element i at turn i: F n has the first n elements
 module _ {A : Type 0} (F : ℕ → List A) (v : ℕ → A) (more : (n : ℕ) → F (suc n) ≡ F n ++ (v n ∷ [])) where
   pub written : (s : List A) (i : ℕ) → i < length s → take i s ≡ F i → take (i + 1) (set s i (v i)) ≡ F (i + 1)
@@ -79,10 +69,6 @@ module _ {A : Type 0} (F : ℕ → List A) (v : ℕ → A) (more : (n : ℕ) →
   all-written s n i h k l e =
       let q : i ≡ n = omega arith in
       sym (take_all i s h) ∙ e ∙ ap F q
-
-pub replicate_more : {A : Type 0} (a : A) (n : ℕ) → replicate (suc n) a ≡ replicate n a ++ (a ∷ [])
-replicate_more a zero = refl
-replicate_more a (suc n) = ap (λ x. a ∷ x) (replicate_more a n)
 
 pub numbers_more : (n : ℕ) → first_numbers (suc n) ≡ first_numbers n ++ (n ∷ [])
 unfolding first_numbers

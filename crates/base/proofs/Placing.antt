@@ -1,13 +1,13 @@
 -- A table with a list written into it, at an entry or from its start: an entry or a list at a time, two lists side by side, and a part that came
 -- back. Assumes nothing.
 use mathlib.Core.Path.{◌≡◌, refl, sym, ap, ◌∙◌}
-use mathlib.Core.List.{List, [], ◌∷◌, ◌++◌, append-nil, append_assoc}
+use mathlib.Core.List.{List, [], ◌∷◌, ◌++◌, append_assoc}
 use Prim.Native.Nat.{ℕ, ◌+◌, ◌-◌, ◌≤◌, ◌<◌}
 use native.Mathlib.Nat.{add-zero, zero-add, add_assoc}
 use native.Mathlib.Numerals.{add-one}
 use native.Mathlib.Omega.{arith}
-use lib.ListN.{length, take, drop, set, length-append, length-drop, take-append-drop, drop_of_length-le}
-use lib.Seq.{length-take-le, set_split, take_at, drop_at, drop-drop, take-append-le, take-take, sets, sets-eq}
+use lib.ListN.{length, take, drop, set, length-append, length-drop, take-append-drop}
+use lib.Seq.{length-take-le, set_split, take_at, drop_at, drop-drop, take-append-le, take-take}
 use Rattle.base.specs.Tables.{placed, over}
 
 module _ {A : Type 0} where
@@ -48,13 +48,6 @@ module _ {A : Type 0} where
 
   pub placed-step : (k : ℕ) (v : A) (ys t : List A) → k < length t → placed (k + 1) ys (set t k v) ≡ placed k (v ∷ ys) t
   placed-step k v ys t h = ap (placed (k + 1) ys) (placed_one k v t h) ∙ placed-append k (v ∷ []) ys t (omega arith)
-
--- stores to every entry, in order
-pub put_all : {A : Type 0} (vs l : List A) → length l ≡ length vs → sets l 0 vs ≡ vs
-put_all vs l e =
-    sets-eq vs l 0 (omega arith)
-    ∙ ap (λ x. vs ++ x) (drop_of_length-le l {i = 0 + length vs} (omega arith))
-    ∙ append-nil vs
 
 -- the part from i to e came back as ys
 pub placed-part : {A : Type 0} (ys t : List A) (i e : ℕ) → e ≡ i + length ys → take i t ++ (ys ++ drop (e - i) (drop i t)) ≡ placed i ys t

@@ -139,9 +139,6 @@ count-hit i f k m e h d = omega (arith, count_next i f ∙ ap (λ b. bit b + cou
 pub count-miss : (i : ℕ) (f : ℕ → Bool) (k m : ℕ) → k ≡ count i f → f i ≡ false → m ≡ k → m ≡ count (i + 1) f
 count-miss i f k m e h d = omega (arith, count_next i f ∙ ap (λ b. bit b + count i f) h)
 
-pub count-end : (i n : ℕ) (f : ℕ → Bool) (k : ℕ) → k ≡ count i f → i ≤ n → n ≤ i → k ≡ count n f
-count-end i n f k e a b = let d : i ≡ n = omega arith in e ∙ ap (λ (m : ℕ). count m f) d
-
 -- ---- sums
 pub total-same : (n : ℕ) (f g : ℕ → ℕ) → ((k : ℕ) → k < n → f k ≡ g k) → total n f ≡ total n g
 unfolding total

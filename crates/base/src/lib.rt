@@ -1,8 +1,8 @@
-// What every crate rests on: the limits on numbers (docs/RULES.md, 'Limits'), what a call that writes tables alone answers, and
-// numbers as words and as indices.
+// What every crate rests on: the limits on numbers (docs/RULES.md, 'Limits'), the refusals, and local arrays.
 #![tactic(auto)]
 
-ghost use Rattle.std.specs.Prelude.{◌≡◌, ◌<◌, ◌^◌, min as min_of, max as max_of};
+ghost use Rattle.std.specs.Prelude.{◌≡◌, replicate};
+ghost use Rattle.base.specs.Refusals.{refusal_number};
 
 // Solute atoms, and waters.
 pub const MAX_ATOMS: usize = 65536;
@@ -13,36 +13,40 @@ pub const MAX_COPIES: usize = 4096;
 
 pub const MAX_PICKS: usize = 65536;
 
-// What a call answers that writes tables alone: acceptance, or a refusal by its number.
-#[derive(Clone, Copy)]
-pub enum Answer {
-    Accepted,
-    Refused(u32),
+// Why a call refuses, by its number in docs/RULES.md ('Refusals'); the header has the same names.
+#[derive(Clone, Copy, PartialEq, Eq, Debug)]
+pub enum Refused {
+    Ragged = 1,
+    Long = 2,
+    Bound = 3,
+    Coordinate = 4,
+    Copies = 5,
+    Picks = 6,
+    Short = 7,
+    Lists = 8,
+    Table = 9,
+    NoRow = 10,
+    RowAgain = 11,
+    RowLeft = 12,
+    Nodes = 13,
+    Block = 14,
+    Cell = 15,
+    Reach = 16,
+    OtherCutoff = 17,
 }
 
-// A word as an index.
-pub fn wide(x: u32) -> usize
-    ensures { result ≡ x }
-{
-    x as usize
+impl Refused {
+    pub fn number(self) -> u32
+        ensures { result ≡ refusal_number self }
+    {
+        self as u32
+    }
 }
 
-// A number as a word.
-pub fn word(x: usize) -> u32
-    requires { x < 2 ^ 32 }
-    ensures { result ≡ x }
+// N equal entries: a local array of its caller. A function of its own, so that the caller's proof does not count the array out, and the compiler
+// puts the array where the caller has it.
+pub fn room<T: Copy, const N: usize>(x: T) -> [T; N]
+    ensures { result ≡ replicate N x }
 {
-    x as u32
-}
-
-pub fn min(a: usize, b: usize) -> usize
-    ensures { result ≡ min_of a b }
-{
-    if a < b { a } else { b }
-}
-
-pub fn max(a: usize, b: usize) -> usize
-    ensures { result ≡ max_of a b }
-{
-    if a < b { b } else { a }
+    [x; N]
 }

@@ -8,11 +8,12 @@ use lib.Dec.{ltb}
 use lib.ListN.{length}
 use lib.Ieee.{Float}
 use borrow.Author.Tests.{ltb-false}
-use Rattle.base.specs.Refusals.{first_refusal}
+use Rattle.base.specs.Refusals.{first_refusal, refused}
 use Rattle.base.specs.Tables.{over}
 use Rattle.base.proofs.Tests.{neither}
-use Rattle.block.specs.declared.Block.{Block}
-use Rattle.block.specs.declared.Block.TheVariants.{Refused, Frame}
+use Rattle.std.proofs.Common.{Result, Ok}
+use Rattle.base.specs.declared.Refused.{Refused}
+use Rattle.block.specs.declared.BlockFrame.{BlockFrame}
 use Rattle.block.specs.Block.{per_copy, solute_atoms, index_count, water_count, is_block, block_cell, indices_of, solutes_of, waters_of, block_refusal, block_answer, indices_after, solutes_after, waters_after}
 
 -- the bytes, and the lent tables for indices, solutes and waters
@@ -50,7 +51,7 @@ module _ (b is : List ℕ) (ss ws : List Float) where
       }
 
   -- the four promises, of an answer and of the tables afterwards
-  abbrev pub Owed : Block → List ℕ → List Float → List Float → Type 0
+  abbrev pub Owed : Result BlockFrame Refused → List ℕ → List Float → List Float → Type 0
   Owed r is₁ ss₁ ws₁ =
       record {
         answer : r ≡ block_answer b is ss ws;
@@ -59,10 +60,10 @@ module _ (b is : List ℕ) (ss ws : List Float) where
         waters_after : ws₁ ≡ waters_after b is ss ws;
       }
 
-  pub refused : (m : ℕ) → block_refusal b is ss ws ≡ suc m → Owed (Refused (suc m)) is ss ws
+  pub owed-refused : (m : ℕ) → block_refusal b is ss ws ≡ suc m → Owed (refused (suc m)) is ss ws
   unfolding block_answer indices_after solutes_after waters_after
-  refused m e = record { answer = rw e; indices_after = rw e; solutes_after = rw e; waters_after = rw e }
+  owed-refused m e = record { answer = rw e; indices_after = rw e; solutes_after = rw e; waters_after = rw e }
 
-  pub taken : block_refusal b is ss ws ≡ 0 → Owed (Frame (per_copy b) (solute_atoms b) (index_count b) (water_count b) (block_cell b)) (over (indices_of b) is) (over (solutes_of b) ss) (over (waters_of b) ws)
+  pub taken : block_refusal b is ss ws ≡ 0 → Owed (Ok (record { per = per_copy b; solutes = solute_atoms b; indices = index_count b; waters = water_count b; cell = block_cell b })) (over (indices_of b) is) (over (solutes_of b) ss) (over (waters_of b) ws)
   unfolding block_answer indices_after solutes_after waters_after
   taken e = record { answer = rw e; indices_after = rw e; solutes_after = rw e; waters_after = rw e }

@@ -7,9 +7,9 @@ use Prim.Native.Nat.{ℕ}
 use lib.ListN.{take, replicate}
 use lib.Ieee.{Float, nan, binary32, of_bits}
 use Rattle.cell.specs.declared.Vec3.{Vec3}
-use Rattle.base.specs.Refusals.{first_refusal}
+use Rattle.base.specs.Refusals.{first_refusal, refused}
 use Rattle.base.specs.Tables.{over}
-use Rattle.block.specs.declared.Block.TheVariants.{Refused, Frame}
+use Rattle.std.proofs.Common.{Ok}
 use Rattle.block.specs.Block.{half_at, word_at, float_at, values_from, length_word, is_block, block_cell, indices_of, solutes_of, waters_of, block_refusal, block_answer, indices_after, solutes_after, waters_after}
 
 -- a word's four bytes, and those of the floats 2, 4, 6 and 16
@@ -52,19 +52,19 @@ ones n = replicate n (f 0x3f80_0000)
 pub record Checked : Type 0 where
   pub length-word : length_word listed ≡ 78
   pub is-block : is_block listed ≡ true
-  pub answer : block_answer listed (9 ∷ []) (ones 7) (ones 4) ≡ Frame 1 2 0 1 (record { low = alike 0; high = alike 0x4180_0000 })
+  pub answer : block_answer listed (9 ∷ []) (ones 7) (ones 4) ≡ Ok (record { per = 1; solutes = 2; indices = 0; waters = 1; cell = record { low = alike 0; high = alike 0x4180_0000 } })
   -- each table begins with its part, and keeps the rest
   pub indices : indices_after listed (9 ∷ []) (ones 7) (ones 4) ≡ 9 ∷ []
   pub solutes : solutes_after listed (9 ∷ []) (ones 7) (ones 4) ≡ f 0x4000_0000 ∷ f 0x4000_0000 ∷ f 0x4000_0000 ∷ f 0x4080_0000 ∷ f 0x4000_0000 ∷ f 0x4000_0000 ∷ f 0x3f80_0000 ∷ []
   pub waters : waters_after listed (9 ∷ []) (ones 7) (ones 4) ≡ f 0x40c0_0000 ∷ f 0x40c0_0000 ∷ f 0x40c0_0000 ∷ f 0x3f80_0000 ∷ []
   -- a table too short for its part is 7, and nothing is written
-  pub short-table : block_answer listed [] (ones 5) (ones 4) ≡ Refused 7
+  pub short-table : block_answer listed [] (ones 5) (ones 4) ≡ refused 7
   pub unchanged : waters_after listed [] (ones 5) (ones 4) ≡ ones 4
   -- one byte less, one more, another kind, and no byte at all
-  pub cut : block_answer (take 81 listed) [] (ones 6) (ones 3) ≡ Refused 14
-  pub longer : block_answer (listed ++ (0 ∷ [])) [] (ones 6) (ones 3) ≡ Refused 14
-  pub other-kind : block_answer (headed (small 78) 2 (small 1) (small 2) (small 0) (small 1) ++ coordinates) [] (ones 6) (ones 3) ≡ Refused 14
-  pub empty : block_answer [] [] [] [] ≡ Refused 14
+  pub cut : block_answer (take 81 listed) [] (ones 6) (ones 3) ≡ refused 14
+  pub longer : block_answer (listed ++ (0 ∷ [])) [] (ones 6) (ones 3) ≡ refused 14
+  pub other-kind : block_answer (headed (small 78) 2 (small 1) (small 2) (small 0) (small 1) ++ coordinates) [] (ones 6) (ones 3) ≡ refused 14
+  pub empty : block_answer [] [] [] [] ≡ refused 14
   -- 2 ^ 30 indices: four times that comes round to 0 in 32 bits, and the length would be 42
   pub comes-round : is_block (headed (small 42) 1 (small 1) (small 0) two (small 0)) ≡ false
   -- the same with none is a block

@@ -7,6 +7,7 @@ use Prim.Native.Nat.{ℕ, ◌+◌, ◌*◌, ◌≤◌, ◌<◌}
 use native.Mathlib.Omega.{arith}
 use lib.Dec.{leb, eqb}
 use lib.ListN.{length}
+use Rattle.std.proofs.Common.{length-take}
 use borrow.Author.Tests.{eq-eqb, ne_eqb, eqb-true, le-leb, lt-leb}
 use Rattle.block.specs.Block.{length_word, kind, solute_atoms, index_count, water_count, max_block, is_block}
 
@@ -52,3 +53,6 @@ module _ (b : List ℕ) where
       let ends = ((and-eq-true_iff (eqb (kind b) 1) _).0 rest).1 in
       let both = (and-eq-true_iff (eqb (length_word b) (counted b)) _).0 ends in
       omega (arith, eqb-true (length_word b) (counted b) both.0, eqb-true (4 + length_word b) (length b) both.1)
+
+-- how long a block's parts are, and tables that are filled with them
+pub ruleset lengths = (block-length, length-take)

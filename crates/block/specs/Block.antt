@@ -1,13 +1,13 @@
 -- docs/RULES.md, program `frame`: the block of bytes that holds a frame, and what its reader answers and leaves in the lent tables.
 -- A byte past the end counts as 0 in a word; no such word is read of a block. Definitions only. Assumes nothing.
-use Rattle.std.specs.Prelude.{ℕ, zero, suc, ◌+◌, ◌*◌, Bool, not, ◌&&◌, ◌||◌, List, [], ◌∷◌, ltb, leb, eqb, length, get_or, Float}
+use Rattle.std.specs.Prelude.{ℕ, zero, suc, ◌+◌, ◌*◌, Bool, not, ◌&&◌, ◌||◌, List, [], ◌∷◌, ltb, leb, eqb, length, get_or, Float, Result, Ok}
 use Rattle.std.specs.Float.{binary32}
 use Rattle.std.specs.Float.Ieee.{of_bits}
 use Rattle.cell.specs.declared.Cell.{Cell}
-use Rattle.base.specs.Refusals.{refuse, first_refusal}
+use Rattle.base.specs.declared.Refused.{Refused}
+use Rattle.base.specs.Refusals.{refuse, first_refusal, refused}
 use Rattle.base.specs.Tables.{over, unless_refused}
-use Rattle.block.specs.declared.Block.{Block}
-use Rattle.block.specs.declared.Block.TheVariants.{Refused, Frame}
+use Rattle.block.specs.declared.BlockFrame.{BlockFrame}
 
 -- ---- little-endian numbers, at position p of the bytes b
 -- u16
@@ -93,12 +93,12 @@ block_refusal b is ss ws =
     ∷ refuse 7 (ltb (length is) (index_count b) || (ltb (length ss) (solute_atoms b * 3) || ltb (length ws) (water_count b * 3)))
     ∷ [])
 
--- a refusal by its number, or the frame's atoms per copy, solute atoms, indices, waters and cell
-unfoldable pub block_answer : List ℕ → List ℕ → List Float → List Float → Block
+-- the frame's atoms per copy, solute atoms, indices, waters and cell, or the refusal
+unfoldable pub block_answer : List ℕ → List ℕ → List Float → List Float → Result BlockFrame Refused
 block_answer b is ss ws =
     unless_refused (block_refusal b is ss ws)
-    (Frame (per_copy b) (solute_atoms b) (index_count b) (water_count b) (block_cell b))
-    (Refused (block_refusal b is ss ws))
+    (Ok (record { per = per_copy b; solutes = solute_atoms b; indices = index_count b; waters = water_count b; cell = block_cell b }))
+    (refused (block_refusal b is ss ws))
 
 -- the three tables afterwards
 unfoldable pub indices_after : List ℕ → List ℕ → List Float → List Float → List ℕ

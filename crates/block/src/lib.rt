@@ -2,10 +2,10 @@
 // no count in it leads outside, and a refusal changes nothing.
 #![tactic(auto)]
 
-ghost use Rattle.std.specs.Prelude.{◌≡◌, ◌+◌, ◌*◌, ◌^◌, ◌<◌, ◌≤◌, length, get_or};
-ghost use Rattle.base.specs.Tables.{over};
-ghost use Rattle.block.specs.Block.{half_at, word_at, float_at, words_from, floats_from, is_block, block_cell, block_answer, indices_after, solutes_after, waters_after};
+ghost use Rattle.std.specs.Prelude.{◌≡◌, ℕ, ◌+◌, ◌*◌, ◌^◌, ◌<◌, ◌≤◌, List, length};
+ghost use Rattle.block.specs.Block.{half_at, word_at, float_at, values_from, is_block, block_answer, indices_after, solutes_after, waters_after};
 
+use base::Refused;
 use cell::{Cell, Vec3};
 
 // The bytes of a block, at most, with its length word.
@@ -14,56 +14,56 @@ pub const MAX_BLOCK: usize = 60000;
 // The bytes before a block's indices.
 const HEADER: usize = 46;
 
-// What the reader answers: a refusal by its number, or a frame's atoms per copy, its numbers of solute atoms, indices and
-// waters, and its cell.
+// The frame of a block: its atoms per copy, its numbers of solute atoms, indices and waters, and its cell.
 #[derive(Clone, Copy)]
-pub enum Block {
-    Refused(u32),
-    Frame {
-        per: usize,
-        solutes: usize,
-        indices: usize,
-        waters: usize,
-        cell: Cell,
-    },
+pub struct BlockFrame {
+    pub per: usize,
+    pub solutes: usize,
+    pub indices: usize,
+    pub waters: usize,
+    pub cell: Cell,
 }
 
-fn byte(bytes: &[u8], at: usize) -> u32
-    requires { at < length bytes.now }
-    ensures { (result ≡ get_or bytes.now at 0) × (result < 256) }
-{
-    bytes[at] as u32
+// A value of four bytes, the lowest first.
+trait LittleEndian: Copy {
+    ghost at: { List ℕ → ℕ → Self };
+
+    fn read(bytes: &[u8], p: usize) -> Self
+        requires { p + 4 ≤ length bytes.now }
+        ensures { result ≡ at bytes.now p };
 }
 
-// The little-endian numbers of two and of four bytes.
-fn half(bytes: &[u8], at: usize) -> u32
-    requires { at + 2 ≤ length bytes.now }
-    ensures { (result ≡ half_at bytes.now at) × (result < 2 ^ 16) }
-{
-    byte(bytes, at) + byte(bytes, at + 1) * 256
-}
+impl LittleEndian for u32 {
+    ghost at = { word_at };
 
-fn word(bytes: &[u8], at: usize) -> u32
-    requires { at + 4 ≤ length bytes.now }
-    ensures { result ≡ word_at bytes.now at }
-{
-    half(bytes, at) + half(bytes, at + 2) * 65536
-}
-
-// A number of atoms, indices or waters.
-fn count(bytes: &[u8], at: usize) -> usize
-    requires { at + 4 ≤ length bytes.now }
-    ensures { (result ≡ word_at bytes.now at) × (result < 2 ^ 32) }
-{
-    word(bytes, at) as usize
+    fn read(bytes: &[u8], p: usize) -> u32 {
+        u32::from_le_bytes([bytes[p], bytes[p + 1], bytes[p + 2], bytes[p + 3]])
+    }
 }
 
 // Every NaN's pattern arrives as a NaN.
-fn float(bytes: &[u8], at: usize) -> f32
-    requires { at + 4 ≤ length bytes.now }
-    ensures { result ≡ float_at bytes.now at }
+impl LittleEndian for f32 {
+    ghost at = { float_at };
+
+    fn read(bytes: &[u8], p: usize) -> f32 {
+        numbers::class::from_bits(u32::read(bytes, p))
+    }
+}
+
+// The block's kind.
+fn half(bytes: &[u8], p: usize) -> u16
+    requires { p + 2 ≤ length bytes.now }
+    ensures { result ≡ half_at bytes.now p }
 {
-    numbers::class::from_bits32(word(bytes, at))
+    u16::from_le_bytes([bytes[p], bytes[p + 1]])
+}
+
+// A number of atoms, indices or waters.
+fn count(bytes: &[u8], p: usize) -> usize
+    requires { p + 4 ≤ length bytes.now }
+    ensures { (result ≡ word_at bytes.now p) × (result < 2 ^ 32) }
+{
+    u32::read(bytes, p) as usize
 }
 
 // Whether the bytes are a block. The counts are below 2^32, so their products do not come round in a usize.
@@ -87,82 +87,61 @@ fn is_block(bytes: &[u8]) -> bool
     4 + length == bytes.len()
 }
 
-fn read_cell(bytes: &[u8]) -> Cell
-    requires { 46 ≤ length bytes.now }
-    ensures { result ≡ block_cell bytes.now }
+fn read_corner(bytes: &[u8], p: usize) -> Vec3
+    requires { p + 12 ≤ length bytes.now }
+    ensures { result ≡ record { x = float_at bytes.now p; y = float_at bytes.now (p + 4); z = float_at bytes.now (p + 8) } }
 {
-    Cell {
-        low: Vec3 {
-            x: float(bytes, 22),
-            y: float(bytes, 26),
-            z: float(bytes, 30),
-        },
-        high: Vec3 {
-            x: float(bytes, 34),
-            y: float(bytes, 38),
-            z: float(bytes, 42),
-        },
+    Vec3 {
+        x: f32::read(bytes, p),
+        y: f32::read(bytes, p + 4),
+        z: f32::read(bytes, p + 8),
     }
 }
 
-// Reads n words from position `at` on into the table's start.
-fn read_words(bytes: &[u8], at: usize, n: usize, table: &mut [u32])
-    requires { (at + n * 4 ≤ length bytes.now) × (n ≤ length table.old) }
-    ensures { table.new ≡ over (words_from bytes.now n at) table.old }
+// Reads a value from position p on into each entry of the table.
+fn read_all<T: LittleEndian>(bytes: &[u8], p: usize, table: &mut [T])
+    requires { p + length table.old * 4 ≤ length bytes.now }
+    ensures { table.new ≡ values_from (T.at bytes.now) (length table.old) p }
 {
-    let mut i = 0;
-    let mut p = at;
-    while i < n {
-        table[i] = word(bytes, p);
-        i += 1;
-        p += 4;
-    }
-}
-
-// As read_words, of floats.
-fn read_floats(bytes: &[u8], at: usize, n: usize, table: &mut [f32])
-    requires { (at + n * 4 ≤ length bytes.now) × (n ≤ length table.old) }
-    ensures { table.new ≡ over (floats_from bytes.now n at) table.old }
-{
-    let mut i = 0;
-    let mut p = at;
-    while i < n {
-        table[i] = float(bytes, p);
-        i += 1;
-        p += 4;
+    for (i, x) in table.iter_mut().enumerate() {
+        *x = T::read(bytes, p + i * 4);
     }
 }
 
 // Reads the block's frame into the lent tables: 14, 7, or the frame.
+#[tactic(auto, using(crate::proofs::Header::lengths))]
 pub fn read_block(
     bytes: &[u8],
     indices: &mut [u32],
     solutes: &mut [f32],
     waters: &mut [f32],
-) -> Block
+) -> Result<BlockFrame, Refused>
     ensures answer { result ≡ block_answer bytes.now indices.old solutes.old waters.old }
     ensures indices_after { indices.new ≡ indices_after bytes.now indices.old solutes.old waters.old }
     ensures solutes_after { solutes.new ≡ solutes_after bytes.now indices.old solutes.old waters.old }
     ensures waters_after { waters.new ≡ waters_after bytes.now indices.old solutes.old waters.old }
 {
     if !is_block(bytes) {
-        return Block::Refused(14);
+        return Err(Refused::Block);
     }
     let s = count(bytes, 10);
     let k = count(bytes, 14);
     let w = count(bytes, 18);
     if (indices.len() < k) | ((solutes.len() < s * 3) | (waters.len() < w * 3)) {
-        return Block::Refused(7);
+        return Err(Refused::Short);
     }
     let first = HEADER + k * 4;
-    read_words(bytes, HEADER, k, indices);
-    read_floats(bytes, first, s * 3, solutes);
-    read_floats(bytes, first + s * 12, w * 3, waters);
-    Block::Frame {
+    read_all(bytes, HEADER, &mut indices[..k]);
+    read_all(bytes, first, &mut solutes[..s * 3]);
+    read_all(bytes, first + s * 12, &mut waters[..w * 3]);
+    Ok(BlockFrame {
         per: count(bytes, 6),
         solutes: s,
         indices: k,
         waters: w,
-        cell: read_cell(bytes),
-    }
+        cell: Cell {
+            low: read_corner(bytes, 22),
+            high: read_corner(bytes, 34),
+        },
+    })
 }

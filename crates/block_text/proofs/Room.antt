@@ -8,12 +8,14 @@ use native.Mathlib.Decide.{dec_le}
 use native.Mathlib.Omega.{arith}
 use lib.ListN.{length, take, length-replicate}
 use lib.Seq.{length-take-le, take_all}
+use Rattle.std.proofs.Common.{Result, Ok, Err, Option, Some, None}
+use Rattle.base.specs.declared.Refused.{Refused}
+use Rattle.base.specs.Refusals.{refusal_number}
 use Rattle.block.specs.Block.{max_block, is_block}
 use Rattle.block.proofs.Header.{long-no-block}
 use Rattle.listing.specs.Listing.{refused_text}
 use Rattle.listing.proofs.Lengths.{refused-few, listing-few}
-use Rattle.mixing.specs.declared.FrameAnswer.{FrameAnswer}
-use Rattle.mixing.specs.declared.FrameAnswer.TheVariants.{Refused, Blank, Mixed}
+use Rattle.mixing.specs.declared.Mixture.{Mixture}
 use Rattle.mixing.specs.Frame.{Frame, FrameTables, frame_answer, frame_after}
 use Rattle.mixing.proofs.Answered.{listed-leaves}
 use Rattle.frame_text.specs.Texts.{program_tables, answer_text, frame_text}
@@ -24,11 +26,10 @@ frame-fits : (f : Frame) (t : FrameTables) → length t.leaves ≡ 16384 → len
 unfolding frame_text
 frame-fits f t e = by_answer (frame_answer f t) refl
   where
-    by_answer : (r : FrameAnswer) → r ≡ frame_answer f t → length (answer_text r (frame_after f t).leaves) ≤ text_room
-    by_answer (Refused n) h = omega (arith, refused-few n)
-    by_answer Blank h = omega arith
-    by_answer (Mixed copies picks largest contacted pair dispersion nodes depth count dry) h =
-        omega (arith, listing-few copies largest contacted pair dispersion nodes depth (frame_after f t).leaves count dry, listed-leaves f t h, e)
+    by_answer : (r : Result (Option Mixture) Refused) → r ≡ frame_answer f t → length (answer_text r (frame_after f t).leaves) ≤ text_room
+    by_answer (Ok (Some m)) h = omega (arith, listing-few m (frame_after f t).leaves, listed-leaves f t m h, e)
+    by_answer (Ok None) h = omega arith
+    by_answer (Err x) h = omega (arith, refused-few (refusal_number x))
 
 pub printed-fits : (b : List ℕ) → length (printed b) ≤ text_room
 unfolding printed program_tables

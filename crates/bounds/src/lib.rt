@@ -1,7 +1,7 @@
 // Boxes (docs/RULES.md, 'Octree'): low, high, center and extent as floats, by value.
 #![tactic(auto)]
 
-ghost use Rattle.std.specs.Prelude.{◌≡◌, cond, eqb};
+ghost use Rattle.std.specs.Prelude.{◌≡◌};
 ghost use Rattle.bounds.specs.Bounds.{box_between, cell_box, corner as corner_of, child_of, wide_box};
 
 use cell::{Cell, Vec3};
@@ -17,21 +17,14 @@ pub struct OctreeBounds {
     pub extent: Vec3,
 }
 
-// a, or b where a bit is set.
-fn pick(bit: usize, a: f32, b: f32) -> f32
-    ensures { result ≡ cond (eqb bit 0) a b }
-{
-    if bit == 0 { a } else { b }
-}
-
 // On each axis p, or q where the octant's bit is set.
 fn corner(octant: usize, p: Vec3, q: Vec3) -> Vec3
     ensures { result ≡ corner_of octant p q }
 {
     Vec3 {
-        x: pick(octant & 1, p.x, q.x),
-        y: pick(octant & 2, p.y, q.y),
-        z: pick(octant & 4, p.z, q.z),
+        x: if octant & 1 == 0 { p.x } else { q.x },
+        y: if octant & 2 == 0 { p.y } else { q.y },
+        z: if octant & 4 == 0 { p.z } else { q.z },
     }
 }
 
@@ -41,8 +34,8 @@ impl OctreeBounds {
         ensures { result ≡ box_between low high }
     {
         OctreeBounds {
-            low: low,
-            high: high,
+            low,
+            high,
             center: Vec3 {
                 x: (low.x + high.x) * 0.5,
                 y: (low.y + high.y) * 0.5,
@@ -56,13 +49,8 @@ impl OctreeBounds {
         }
     }
 
-    pub fn from_cell(cell: Cell) -> OctreeBounds
-        ensures { result ≡ cell_box cell }
-    {
-        OctreeBounds::between(cell.low, cell.high)
-    }
-
     // The box of an octant.
+    #[tactic(auto, unfolding(crate::specs::Bounds::child_of))]
     pub fn child(self, octant: usize) -> OctreeBounds
         ensures { result ≡ child_of self octant }
     {
@@ -73,10 +61,20 @@ impl OctreeBounds {
     }
 
     // Whether its widest side is over 0.75.
+    #[tactic(auto, unfolding(crate::specs::Bounds::wide_box))]
     pub fn is_wide(self) -> bool
         ensures { result ≡ wide_box self }
     {
         (self.extent.x > LEAST_WIDTH)
             | ((self.extent.y > LEAST_WIDTH) | (self.extent.z > LEAST_WIDTH))
+    }
+}
+
+// The box of the whole cell.
+impl From<Cell> for OctreeBounds {
+    ghost from_gives = { λ c b. b ≡ cell_box c };
+
+    fn from(cell: Cell) -> OctreeBounds {
+        OctreeBounds::between(cell.low, cell.high)
     }
 }

@@ -1,16 +1,14 @@
 // The cell of a frame and the geometry in it (docs/RULES.md, 'Cell'): extent, validity, wrap, minimum image, squared
 // distance, volume, and the bounds of a reach (16). Lengths are in angstrom. Every f32 operation rounds once, left to right.
-#![tactic(auto)]
+#![tactic(auto, unfolding(crate::specs::Cell::extent_of, crate::specs::Cell::valid_axis, crate::specs::Cell::valid, crate::specs::Cell::wrap_axis, crate::specs::Cell::wrap, crate::specs::Cell::image_axis, crate::specs::Cell::min_image, crate::specs::Cell::squared, crate::specs::Cell::minus, crate::specs::Cell::distance2, crate::specs::Cell::volume_of, crate::specs::Cell::point_at, crate::specs::Cell::finite_point, crate::specs::Reach::sound_reach, crate::specs::Inner::within_axis, crate::specs::Inner::within_all))]
 
-ghost use Rattle.std.specs.Prelude.{◌≡◌, true, cond, ◌+◌, ◌*◌, ◌<◌, length};
+ghost use Rattle.std.specs.Prelude.{◌≡◌, cond, ◌+◌, ◌*◌, ◌<◌, length};
+ghost use Rattle.std.specs.Bool.{then_some};
 ghost use Rattle.std.specs.Float.{binary32};
 ghost use Rattle.std.specs.Float.Ieee.{of_bits};
 ghost use Rattle.cell.specs.Cell.{wrap_axis, image_axis, valid_axis, extent_of, valid, wrap as wrap_of, min_image, squared, minus, distance2, volume_of, point_at, finite_point};
 ghost use Rattle.cell.specs.Reach.{sound_reach};
 ghost use Rattle.cell.specs.Inner.{within_axis, within_all};
-
-// f32 EPSILON, 2^-23: an extent at or below it makes a cell not valid.
-pub const EPSILON: f32 = 1.1920929e-7;
 
 // The longest reach.
 pub const MAX_REACH: f32 = 16.0;
@@ -42,10 +40,10 @@ pub fn extent(cell: Cell) -> Vec3
 fn valid_axis(e: f32) -> bool
     ensures { result ≡ valid_axis e }
 {
-    numbers::class::is_finite32(e) & (e > EPSILON)
+    numbers::class::is_finite32(e) & (e > f32::EPSILON)
 }
 
-// Whether every extent is finite and above EPSILON.
+// Whether every extent is finite and above EPSILON, 2^-23.
 pub fn is_valid(cell: Cell) -> bool
     ensures { result ≡ valid cell }
 {
@@ -60,13 +58,6 @@ fn wrap_axis(p: f32, low: f32, e: f32) -> f32
     p - e * numbers::whole::floor32((p - low) / e)
 }
 
-// A number that was found without a division, and whether it is sure to be the one asked for; if not, it says nothing.
-#[derive(Clone, Copy)]
-pub struct Folded {
-    pub sure: bool,
-    pub value: f32,
-}
-
 // a where t holds, else 0.
 fn masked(t: bool, a: f32) -> f32
     ensures { result ≡ cond t a (of_bits binary32 0) }
@@ -74,28 +65,25 @@ fn masked(t: bool, a: f32) -> f32
     if t { a } else { 0.0 }
 }
 
-// One axis of the minimum image for a separation below the extent, which is d or an extent from it: two comparisons, no division, and no
-// branch at half the extent, which would be guessed wrong on every other separation. d + 0.0 makes -0 +0, as the division's form does.
-pub fn fold_axis(d: f32, e: f32) -> Folded
-    ensures sure { result.sure ≡ within_axis d e }
-    ensures value { result.sure ≡ true → result.value ≡ image_axis d e }
+// One axis of the minimum image, if the separation is sure to be below the extent: it is d or an extent from it, by two comparisons, with no
+// division, and no branch at half the extent, which would be guessed wrong on every other separation. d + 0.0 makes -0 +0, as the division's
+// form does.
+pub fn fold_axis(d: f32, e: f32) -> Option<f32>
+    ensures { result ≡ then_some (within_axis d e) (image_axis d e) }
 {
     let twice = d + d;
-    Folded {
-        sure: numbers::class::is_finite32(e) & ((d < e) & (-e < d)),
-        value: d + 0.0 - (masked(e <= twice, e) - masked(twice <= -e, e)),
-    }
+    let sure = numbers::class::is_finite32(e) & ((d < e) & (-e < d));
+    sure.then_some(d + 0.0 - (masked(e <= twice, e) - masked(twice <= -e, e)))
 }
 
 // One axis of the minimum image: the separation moved by whole extents to the nearest to zero, but for rounding.
 pub fn image_axis(d: f32, e: f32) -> f32
     ensures { result ≡ image_axis d e }
 {
-    let folded = fold_axis(d, e);
-    if folded.sure {
-        return folded.value;
+    match fold_axis(d, e) {
+        Some(image) => image,
+        None => d - e * numbers::whole::round32(d / e),
     }
-    d - e * numbers::whole::round32(d / e)
 }
 
 // The point moved into the cell.
@@ -139,23 +127,17 @@ pub fn magnitude_squared(d: Vec3) -> f32
     d.x * d.x + d.y * d.y + d.z * d.z
 }
 
-// The squared distance of two points that are less than an extent apart on all axes, without a division.
-pub fn fold_distance(e: Vec3, p: Vec3, q: Vec3) -> Folded
-    ensures sure { result.sure ≡ within_all (minus q p) e }
-    ensures value { result.sure ≡ true → result.value ≡ distance2 e p q }
+// The squared distance of two points, if they are sure to be less than an extent apart on all axes, without a division.
+pub fn fold_distance(e: Vec3, p: Vec3, q: Vec3) -> Option<f32>
+    ensures { result ≡ then_some (within_all (minus q p) e) (distance2 e p q) }
 {
     let d = separation(p, q);
-    let x = fold_axis(d.x, e.x);
-    let y = fold_axis(d.y, e.y);
-    let z = fold_axis(d.z, e.z);
-    Folded {
-        sure: x.sure & (y.sure & z.sure),
-        value: magnitude_squared(Vec3 {
-            x: x.value,
-            y: y.value,
-            z: z.value,
-        }),
-    }
+    let image = Vec3 {
+        x: fold_axis(d.x, e.x)?,
+        y: fold_axis(d.y, e.y)?,
+        z: fold_axis(d.z, e.z)?,
+    };
+    Some(magnitude_squared(image))
 }
 
 // The squared distance of two points, by the minimum image, in a cell of extent e. Points in the cell are at most an extent apart, so that
@@ -163,11 +145,10 @@ pub fn fold_distance(e: Vec3, p: Vec3, q: Vec3) -> Folded
 pub fn distance_squared(e: Vec3, p: Vec3, q: Vec3) -> f32
     ensures { result ≡ distance2 e p q }
 {
-    let folded = fold_distance(e, p, q);
-    if folded.sure {
-        return folded.value;
+    match fold_distance(e, p, q) {
+        Some(square) => square,
+        None => magnitude_squared(min_image(e, separation(p, q))),
     }
-    magnitude_squared(min_image(e, separation(p, q)))
 }
 
 // The product of three sides, in order.

@@ -1,13 +1,13 @@
 -- docs/RULES.md, 'Centers and dispersion' and Centers: anchor = wrap(first pick); sum from 0 of anchor + min_image(pick - anchor);
 -- center = wrap(sum / picks). Every f32 operation rounds once, left to right. Definitions only. Assumes nothing.
-use Rattle.std.specs.Prelude.{ℕ, zero, suc, ◌+◌, ◌*◌, List, [], ◌∷◌, ◌++◌, ltb, pos, length, get_or, Float}
+use Rattle.std.specs.Prelude.{ℕ, zero, suc, ◌+◌, ◌*◌, List, [], ◌∷◌, ◌++◌, ltb, pos, length, get_or, Float, Result, ⊤}
 use Rattle.std.specs.Float.{binary32}
 use Rattle.std.specs.Float.Ieee.{add, div, of_int}
 use Rattle.floats.specs.Constants.{zero32}
 use Rattle.cell.specs.declared.Vec3.{Vec3}
 use Rattle.cell.specs.declared.Cell.{Cell}
 use Rattle.cell.specs.Cell.{extent_of, wrap, min_image, minus, point_at}
-use Rattle.base.specs.declared.Answer.{Answer}
+use Rattle.base.specs.declared.Refused.{Refused}
 use Rattle.base.specs.Refusals.{refuse, first_refusal, answer_of}
 use Rattle.base.specs.Tables.{over, unless_refused}
 use Rattle.pick_lists.specs.Sound.{copies, pick_list}
@@ -65,7 +65,7 @@ unfoldable pub centers_refusal : Input → List Float → ℕ
 unfolding input_refusals first_refusal
 centers_refusal f t = first_refusal (input_refusals f ++ (refuse 7 (ltb (length t) (copies f.starts * 3)) ∷ []))
 
-abbrev pub centers_answer : Input → List Float → Answer
+abbrev pub centers_answer : Input → List Float → Result ⊤ Refused
 centers_answer f t = answer_of (centers_refusal f t)
 
 unfoldable pub centers_after : Input → List Float → List Float

@@ -10,7 +10,7 @@ ghost use Rattle.pick_lists.specs.Sound.{sound_lists, copies, pick_list};
 ghost use Rattle.pick_lists.specs.Input.{given};
 ghost use Rattle.centers.specs.Centers.{plus, divided_by, center_of, centers_of, centers_answer, centers_after};
 
-use base::{Answer, MAX_COPIES};
+use base::{MAX_COPIES, Refused};
 use cell::{Cell, Vec3};
 
 fn add(a: Vec3, b: Vec3) -> Vec3
@@ -58,13 +58,8 @@ fn center(cell: Cell, xs: &[f32], picks: &[u32]) -> Vec3
         y: 0.0,
         z: 0.0,
     };
-    let mut j = 0;
-    while j < picks.len() {
-        sum = add(
-            sum,
-            beside(cell, anchor, cell::point(xs, picks[j] as usize)),
-        );
-        j += 1;
+    for &p in picks {
+        sum = add(sum, beside(cell, anchor, cell::point(xs, p as usize)));
     }
     cell::wrap(cell, divide(sum, picks.len()))
 }
@@ -85,15 +80,12 @@ pub fn put_centers(cell: Cell, xs: &[f32], starts: &[u32], picks: &[u32], center
     ensures { centers.new ≡ over (centers_of (given cell xs.now [] starts.now picks.now)) centers.old }
 {
     // Sound pick lists have at least one start.
-    let n = starts.len() - 1;
-    let mut i = 0;
-    while i < n {
+    for i in 0..starts.len() - 1 {
         let m = copy_center(cell, xs, starts, picks, i);
         let at = i * 3;
         centers[at] = m.x;
         centers[at + 1] = m.y;
         centers[at + 2] = m.z;
-        i += 1;
     }
 }
 
@@ -113,17 +105,14 @@ pub fn centers(
     starts: &[u32],
     picks: &[u32],
     centers: &mut [f32],
-) -> Answer
+) -> Result<(), Refused>
     ensures answer { result ≡ centers_answer (given cell solutes.now [] starts.now picks.now) centers.old }
     ensures after { centers.new ≡ centers_after (given cell solutes.now [] starts.now picks.now) centers.old }
 {
-    let refusal = pick_lists::input_refusal(cell, solutes, &solutes[..0], starts, picks);
-    if refusal != 0 {
-        return Answer::Refused(refusal);
-    }
+    pick_lists::input_refusal(cell, solutes, &[], starts, picks)?;
     if centers.len() < (starts.len() - 1) * 3 {
-        return Answer::Refused(7);
+        return Err(Refused::Short);
     }
     put_centers(cell, solutes, starts, picks, centers);
-    Answer::Accepted
+    Ok(())
 }

@@ -2,12 +2,10 @@
 use mathlib.Core.Path.{◌≡◌, refl, sym, ap, ◌∙◌}
 use mathlib.Core.Bool.{Bool, true, false, ◌&&◌}
 use mathlib.Core.List.{List}
-use Prim.Native.Nat.{ℕ, ◌+◌, ◌-◌, ◌^◌, ◌≤◌, ◌<◌}
+use Prim.Native.Nat.{ℕ, ◌^◌, ◌≤◌, ◌<◌}
 use native.Mathlib.Omega.{arith}
 use native.Mathlib.Decide.{dec_le}
 use lib.Dec.{eqb, ltb, leb}
-use lib.ListN.{length, get_or, take, drop, length-take, length-drop}
-use lib.Seq.{get_or-take, get_or-drop}
 use borrow.Author.Tests.{eq-eqb, ne_eqb, eqb-true, ltb-true, leb-true, lt-ltb, le-ltb, le-leb, lt-leb}
 use Rattle.base.specs.Limits.{max_copies}
 use Rattle.base.specs.Range.{all_below}
@@ -21,13 +19,6 @@ use Rattle.cluster_table.proofs.Pairs.{half-few}
 pub words_right : (n : ℕ) (t : List ℕ) (i : ℕ) → degree n t i < n → mark n t i ≤ 1 → sound_words n t i ≡ true
 unfolding sound_words
 words_right n t i a b = rw (lt-ltb (degree n t i) n a, le-leb (mark n t i) 1 b)
-
--- n words of the table from `at` on, as they are lent: each below m
-pub low_part : (t : List ℕ) (at n m : ℕ) → at + n ≤ length t → all_below (length (take (at + n - at) (drop at t))) (λ i. ltb (get_or (take (at + n - at) (drop at t)) i 0) m) ≡ all_below n (λ i. ltb (get_or t (at + i) 0) m)
-low_part t at n m h =
-    let part : at + n - at ≡ n = omega arith in
-    let size : length (take n (drop at t)) ≡ n = simp (length-take, length-drop) (omega arith) in
-    rw (part, size) (all_same n _ _ (λ k l. ap (λ (x : ℕ). ltb x m) (get_or-take n (drop at t) k 0 l ∙ get_or-drop at t k 0)))
 
 below_two : (x : ℕ) → ltb x 2 ≡ leb x 1
 below_two x = go (dec_le x 1)

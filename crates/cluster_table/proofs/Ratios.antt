@@ -1,10 +1,10 @@
 -- The three fractions of a sound table of n copies. Assumes nothing.
-use mathlib.Core.Path.{◌≡◌, ap, ◌∙◌}
+use mathlib.Core.Path.{◌≡◌}
 use mathlib.Core.Bool.{true}
 use mathlib.Core.List.{List}
-use Prim.Native.Nat.{ℕ, ◌+◌, ◌-◌, ◌≤◌, ◌<◌}
+use Prim.Native.Nat.{ℕ, ◌-◌, ◌≤◌, ◌<◌}
 use native.Mathlib.Omega.{arith}
-use lib.ListN.{length, take, drop}
+use lib.ListN.{length}
 use lib.Dec.{ltb}
 use lib.Ieee.{Float, of_bits, binary32}
 use borrow.Author.Tests.{lt-ltb, le-ltb}
@@ -12,10 +12,9 @@ use Rattle.base.specs.Limits.{max_copies}
 use Rattle.base.specs.Range.{count}
 use Rattle.union_find.specs.Parents.{sound_parents, largest_set}
 use Rattle.union_find.proofs.Sizes.{largest-le, largest-pos}
-use Rattle.cluster_table.specs.Table.{table_copies, contacts, parents, degree, words, pairs, header}
+use Rattle.cluster_table.specs.Table.{table_copies, contacts, parents, degree, words, pairs}
 use Rattle.cluster_table.specs.Fractions.{ratio, three_fractions, table_fractions}
 use Rattle.cluster_table.proofs.Parts.{parents-length}
-use Rattle.cluster_table.proofs.Steps.{lent}
 
 module _ (n : ℕ) (t : List ℕ) where
   module _ (own : table_copies t ≡ n) where
@@ -28,20 +27,17 @@ module _ (n : ℕ) (t : List ℕ) where
     unfolding table_fractions three_fractions
     three m c e x y z l em ec ee ex ey ez = rw (own, le-ltb n 2 l, ex, ey, ez, em, ec, ee)
 
-  -- the parents, as the code lends them
+  -- the largest set
   module _ (asked : (n ≤ max_copies) × (words n ≤ length t)) (sound : sound_parents (parents n t) ≡ true) where
     size : length (parents n t) ≡ n
     size = parents-length n t (omega arith)
 
-    pub lent-asks : (sound_parents (take (header + n - header) (drop header t)) ≡ true) × (length (take (header + n - header) (drop header t)) ≤ max_copies)
-    lent-asks = rw (lent n t, size) (sound, asked.0)
+    pub parents-few : length (parents n t) ≤ max_copies
+    parents-few = rw size asked.0
 
-    module _ (m : ℕ) (e : m ≡ largest_set (take (header + n - header) (drop header t))) where
-      pub lent-largest : m ≡ largest_set (parents n t)
-      lent-largest = e ∙ ap largest_set (lent n t)
+    module _ (m : ℕ) (e : m ≡ largest_set (parents n t)) where
+      pub largest_low : m ≤ n
+      largest_low = omega (arith, e, largest-le (parents n t), size)
 
-      pub lent-low : m ≤ n
-      lent-low = omega (arith, lent-largest, largest-le (parents n t), size)
-
-      pub lent-pos : 0 < n → 0 < m
-      lent-pos l = omega (arith, lent-largest, largest-pos (parents n t) sound (rw size l))
+      pub largest_some : 0 < n → 0 < m
+      largest_some l = omega (arith, e, largest-pos (parents n t) sound (rw size l))

@@ -1,17 +1,18 @@
 -- What Row asks of its cutoff and of a table (16, 7, 9, 17, 10, 11), test by test, and what holds where it asks for nothing more. Assumes nothing.
-use mathlib.Core.Path.{◌≡◌, refl, sym, ◌∙◌}
-use mathlib.Core.Bool.{Bool, true, false, cond, not}
+use mathlib.Core.Path.{◌≡◌, refl, ◌∙◌}
+use mathlib.Core.Bool.{true, false, cond, not}
 use mathlib.Core.List.{List}
-use Prim.Native.Nat.{ℕ, ◌≤◌, ◌<◌}
-use lib.ListN.{length}
+use Prim.Native.Nat.{ℕ, ◌+◌, ◌≤◌, ◌<◌}
+use lib.ListN.{length, get_or}
 use lib.Dec.{eqb, ltb, leb}
 use lib.Ieee.{Float, binary32, to_bits}
 use native.Mathlib.Omega.{arith}
-use borrow.Author.Tests.{eqb-true, lt-ltb, le-ltb, ltb-false, leb-false, not-false}
+use borrow.Author.Tests.{eqb-true, eq-eqb, ne_eqb, le-leb, lt-leb, lt-ltb, le-ltb, ltb-false, leb-false, not-false}
 use Rattle.base.specs.Refusals.{first_refusal}
 use Rattle.base.proofs.FirstRefusal.{first-none}
 use Rattle.cell.specs.Reach.{reach, sound_reach}
-use Rattle.cluster_table.specs.Table.{table_cutoff, mark, words, sound_table}
+use Rattle.cluster_table.specs.Table.{header, table_cutoff, marks, mark, words, sound_table}
+use Rattle.cluster_table.proofs.Lists.{part-at}
 use Rattle.cluster_table.specs.Refusals.{other_cutoff, row_table_refusals}
 
 module _ (n : ℕ) (k : Float) (t : List ℕ) (i : ℕ) where
@@ -24,27 +25,39 @@ module _ (n : ℕ) (k : Float) (t : List ℕ) (i : ℕ) where
   unfolding row_table_refusals reach other_cutoff first_refusal
   table-chain = refl
 
-  -- as the code makes them: what each test answers is known
-  module _ (r : Bool) (reaches : r ≡ sound_reach k) where
-    pub unreached : not r ≡ true → 16 ≡ first_refusal (row_table_refusals n k t i)
-    unreached h = sym (table-chain ∙ rw (← reaches, h))
+  -- as the code makes them: the first that holds, where those before it do not
+  pub unreached : sound_reach k ≡ false → first_refusal (row_table_refusals n k t i) ≡ 16
+  unreached h = table-chain ∙ rw h
 
-    module _ (reached : not r ≡ false) where
-      pub short : length t < words n → 7 ≡ first_refusal (row_table_refusals n k t i)
-      short l = sym (table-chain ∙ rw (← reaches, reached, lt-ltb (length t) (words n) l))
+  module _ (reached : sound_reach k ≡ true) where
+    pub short : length t < words n → first_refusal (row_table_refusals n k t i) ≡ 7
+    short l = table-chain ∙ rw (reached, lt-ltb (length t) (words n) l)
 
-      module _ (long : words n ≤ length t) (b : Bool) (tested : b ≡ sound_table n t) where
-        pub unsound : not b ≡ true → 9 ≡ first_refusal (row_table_refusals n k t i)
-        unsound h = sym (table-chain ∙ rw (← reaches, reached, le-ltb (length t) (words n) long, ← tested, h))
+    module _ (long : words n ≤ length t) where
+      pub unsound : sound_table n t ≡ false → first_refusal (row_table_refusals n k t i) ≡ 9
+      unsound h = table-chain ∙ rw (reached, le-ltb (length t) (words n) long, h)
 
-        -- w is the cutoff's bits
-        module _ (sound : not b ≡ false) (w : ℕ) (bits : w ≡ to_bits binary32 k) where
-          pub other : not (eqb w (table_cutoff t)) ≡ true → 17 ≡ first_refusal (row_table_refusals n k t i)
-          other h = sym (table-chain ∙ rw (← reaches, reached, le-ltb (length t) (words n) long, ← tested, sound, ← bits, h))
+      module _ (sound : sound_table n t ≡ true) where
+        pub other : (to_bits binary32 k ≡ table_cutoff t → ⊥) → first_refusal (row_table_refusals n k t i) ≡ 17
+        other h = table-chain ∙ rw (reached, le-ltb (length t) (words n) long, sound, ne_eqb (to_bits binary32 k) (table_cutoff t) h)
 
-          -- the row's number and its mark are left to test
-          pub alike : not (eqb w (table_cutoff t)) ≡ false → first_refusal (row_table_refusals n k t i) ≡ cond (leb n i) 10 (cond (eqb (mark n t i) 1) 11 0)
-          alike h = table-chain ∙ rw (← reaches, reached, le-ltb (length t) (words n) long, ← tested, sound, ← bits, h)
+        module _ (same : to_bits binary32 k ≡ table_cutoff t) where
+          alike : first_refusal (row_table_refusals n k t i) ≡ cond (leb n i) 10 (cond (eqb (mark n t i) 1) 11 0)
+          alike = table-chain ∙ rw (reached, le-ltb (length t) (words n) long, sound, eq-eqb (to_bits binary32 k) (table_cutoff t) same)
+
+          pub past : n ≤ i → first_refusal (row_table_refusals n k t i) ≡ 10
+          past l = alike ∙ rw (le-leb n i l)
+
+          -- m is the row's mark, as it is read
+          module _ (below : i < n) (m : ℕ) (read : m ≡ get_or (marks n t) i 0) where
+            is-mark : m ≡ mark n t i
+            is-mark = read ∙ part-at t (header + n + n) n i below
+
+            pub again : m ≡ 1 → first_refusal (row_table_refusals n k t i) ≡ 11
+            again e = alike ∙ rw (lt-leb n i below, ← is-mark, eq-eqb m 1 e)
+
+            pub none : (m ≡ 1 → ⊥) → first_refusal (row_table_refusals n k t i) ≡ 0
+            none e = alike ∙ rw (lt-leb n i below, ← is-mark, ne_eqb m 1 e)
 
 -- none of them holds
 pub record Asked (n : ℕ) (k : Float) (t : List ℕ) (i : ℕ) : Type 0 where

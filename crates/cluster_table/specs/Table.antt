@@ -22,6 +22,12 @@ table_cutoff t = get_or t 2 0
 abbrev pub parents : ℕ → List ℕ → List ℕ
 parents n t = take n (drop header t)
 
+abbrev pub degrees : ℕ → List ℕ → List ℕ
+degrees n t = take n (drop (header + n) t)
+
+abbrev pub marks : ℕ → List ℕ → List ℕ
+marks n t = take n (drop (header + n + n) t)
+
 -- where the degree of copy i stands, and its mark
 abbrev pub degree_at : ℕ → ℕ → ℕ
 degree_at n i = header + n + i

@@ -6,11 +6,14 @@
 ghost use Rattle.std.specs.Prelude.{◌≡◌, true, ◌+◌, ◌^◌, ◌<◌, ◌≤◌, ltb, eqb, length, get_or, set};
 ghost use Rattle.base.specs.Limits.{max_copies};
 ghost use Rattle.base.specs.Range.{all_below, count};
-ghost use Rattle.base.specs.Refusals.{first_refusal};
+ghost use Rattle.base.specs.Refusals.{first_refusal, answer_of};
 ghost use Rattle.union_find.specs.Parents.{sound_parents};
-ghost use Rattle.cluster_table.specs.Table.{parents, degree, contacts, mark, mark_at, words, pairs, contact, opened, sound_words, sound_table};
+ghost use Rattle.cluster_table.specs.Table.{parents, degrees, marks, degree, contacts, mark, mark_at, words, pairs, contact, opened, sound_words, sound_table};
 ghost use Rattle.cluster_table.specs.Refusals.{row_table_refusals};
 ghost use Rattle.cluster_table.specs.Fractions.{ratio, table_fractions};
+
+use base::Refused;
+use numbers::class::to_bits;
 
 // The words before the parents.
 pub const HEADER: usize = 3;
@@ -28,10 +31,30 @@ fn pair_count(n: usize) -> usize
     requires { n ≤ max_copies }
     ensures { result ≡ pairs n }
 {
-    if n == 0 {
-        return 0;
-    }
-    n * (n - 1) / 2
+    n * n.saturating_sub(1) / 2
+}
+
+// ---- the parts of a table
+
+fn parents(table: &[u32], n: usize) -> &[u32]
+    requires { words n ≤ length table.now }
+    ensures { result.now ≡ parents n table.now }
+{
+    &table[HEADER..HEADER + n]
+}
+
+fn degrees(table: &[u32], n: usize) -> &[u32]
+    requires { words n ≤ length table.now }
+    ensures { result.now ≡ degrees n table.now }
+{
+    &table[HEADER + n..HEADER + 2 * n]
+}
+
+fn marks(table: &[u32], n: usize) -> &[u32]
+    requires { words n ≤ length table.now }
+    ensures { result.now ≡ marks n table.now }
+{
+    &table[HEADER + 2 * n..HEADER + 3 * n]
 }
 
 // ---- opening
@@ -44,16 +67,11 @@ pub fn open_table(table: &mut [u32], n: usize, bits: u32)
     table[0] = n as u32;
     table[1] = 0;
     table[2] = bits;
-    let mut i = 0;
-    while i < n {
-        table[HEADER + i] = i as u32;
-        i += 1;
+    let end = HEADER + n;
+    for (i, parent) in table[HEADER..end].iter_mut().enumerate() {
+        *parent = i as u32;
     }
-    let mut k = 0;
-    while k < n + n {
-        table[HEADER + n + k] = 0;
-        k += 1;
-    }
+    table[end..end + 2 * n].fill(0);
 }
 
 // ---- whether a table is sound (9)
@@ -63,10 +81,8 @@ fn words_sound(table: &[u32], n: usize) -> bool
     requires { (n ≤ max_copies) × (words n ≤ length table.now) }
     ensures { result ≡ all_below n (sound_words n table.now) }
 {
-    let a = HEADER + n;
-    let b = a + n;
-    let c = b + n;
-    sound_parents::all_below(&table[a..b], n as u32) & sound_parents::all_below(&table[b..c], 2)
+    sound_parents::all_below(degrees(table, n), n as u32)
+        & sound_parents::all_below(marks(table, n), 2)
 }
 
 // Whether a table of n copies is sound: any table whatever is decided.
@@ -74,61 +90,42 @@ pub fn is_sound(table: &[u32], n: usize) -> bool
     requires { (n ≤ max_copies) × (words n ≤ length table.now) }
     ensures { result ≡ sound_table n table.now }
 {
-    if base::wide(table[0]) != n {
-        return false;
-    }
-    if base::wide(table[1]) > pair_count(n) {
-        return false;
-    }
-    let end = HEADER + n;
-    if !sound_parents::is_sound(&table[HEADER..end]) {
-        return false;
-    }
-    words_sound(table, n)
+    table[0] as usize == n
+        && table[1] as usize <= pair_count(n)
+        && sound_parents::is_sound(parents(table, n))
+        && words_sound(table, n)
 }
 
 // ---- what Row asks of a table
 
-// The first of 16, 7, 9, 17, 10 and 11 that holds for row i with this cutoff on a table of n copies, or 0.
-pub fn row_refusal(table: &[u32], n: usize, cutoff: f32, i: usize) -> u32
+// Row i with this cutoff on a table of n copies: the first of 16, 7, 9, 17, 10 and 11 that holds.
+pub fn row_refusal(table: &[u32], n: usize, cutoff: f32, i: usize) -> Result<(), Refused>
     requires { n ≤ max_copies }
-    ensures { result ≡ first_refusal (row_table_refusals n cutoff table.now i) }
+    ensures { result ≡ answer_of (first_refusal (row_table_refusals n cutoff table.now i)) }
 {
-    let reaches = cell::sound_reach(cutoff);
-    let room = HEADER + 3 * n;
-    if !reaches {
-        return 16;
+    if !cell::sound_reach(cutoff) {
+        return Err(Refused::Reach);
     }
-    if table.len() < room {
-        return 7;
+    if table.len() < HEADER + 3 * n {
+        return Err(Refused::Short);
     }
-    let sound = is_sound(table, n);
+    if !is_sound(table, n) {
+        return Err(Refused::Table);
+    }
     // Bit for bit: the table's word may be any, also that of no number.
-    let other = numbers::class::to_bits32(cutoff) != table[2];
-    if !sound {
-        return 9;
-    }
-    if other {
-        return 17;
+    if to_bits(cutoff) != table[2] {
+        return Err(Refused::OtherCutoff);
     }
     if i >= n {
-        return 10;
+        return Err(Refused::NoRow);
     }
-    if table[HEADER + n + n + i] == 1 {
-        return 11;
+    if marks(table, n)[i] == 1 {
+        return Err(Refused::RowAgain);
     }
-    0
+    Ok(())
 }
 
 // ---- contacts and marks
-
-// Adds 1 to a word.
-fn raise(table: &mut [u32], at: usize)
-    requires { (at < length table.old) × (get_or table.old at 0 + 1 < 2 ^ 32) }
-    ensures { table.new ≡ set table.old at (get_or table.old at 0 + 1) }
-{
-    table[at] = table[at] + 1;
-}
 
 // A touch of i and j: their sets are joined, and both degrees and the contacts raised, also where one root was theirs already.
 pub fn add_contact(table: &mut [u32], n: usize, i: usize, j: usize)
@@ -140,9 +137,9 @@ pub fn add_contact(table: &mut [u32], n: usize, i: usize, j: usize)
     let end = HEADER + n;
     // Chains are shortened also where i and j have one root already.
     union_find::union_roots(&mut table[HEADER..end], i as u32, j as u32);
-    raise(table, end + i);
-    raise(table, end + j);
-    raise(table, 1);
+    table[end + i] += 1;
+    table[end + j] += 1;
+    table[1] += 1;
 }
 
 // Mark i becomes 1.
@@ -158,14 +155,7 @@ pub fn all_marked(table: &[u32], n: usize) -> bool
     requires { (n ≤ max_copies) × (words n ≤ length table.now) }
     ensures { result ≡ all_below n (λ i. eqb (mark n table.now i) 1) }
 {
-    let mut i = 0;
-    while i < n {
-        if table[HEADER + n + n + i] != 1 {
-            return false;
-        }
-        i += 1;
-    }
-    true
+    marks(table, n).iter().all(|mark| *mark == 1)
 }
 
 // ---- the fractions
@@ -175,15 +165,10 @@ fn contacted(table: &[u32], n: usize) -> u32
     requires { (n ≤ max_copies) × (words n ≤ length table.now) }
     ensures { result ≡ count n (λ i. ltb 0 (degree n table.now i)) }
 {
-    let mut k = 0;
-    let mut i = 0;
-    while i < n {
-        if 0 < table[HEADER + n + i] {
-            k += 1;
-        }
-        i += 1;
-    }
-    k
+    degrees(table, n)
+        .iter()
+        .filter(|degree| **degree > 0)
+        .count() as u32
 }
 
 // One division of two whole numbers that f32 holds exactly.
@@ -207,8 +192,7 @@ pub fn fractions(table: &[u32], n: usize) -> ClusterFractions
             pair: 0.0,
         };
     }
-    let end = HEADER + n;
-    let largest = union_find::largest_set(&table[HEADER..end]);
+    let largest = union_find::largest_set(parents(table, n));
     ClusterFractions {
         largest: quotient(largest - 1, (n - 1) as u32),
         contacted: quotient(contacted(table, n), n as u32),

@@ -6,17 +6,17 @@ use Prim.Native.Nat.{ℕ, ◌≤◌, ◌<◌}
 use native.Mathlib.Omega.{arith}
 use lib.ListN.{length}
 use lib.Dec.{eqb, ltb}
+use Rattle.std.proofs.Common.{Ok}
 use borrow.Author.Tests.{lt-ltb, le-ltb}
 use Rattle.base.specs.Limits.{max_copies}
-use Rattle.base.specs.Refusals.{first_refusal}
+use Rattle.base.specs.Refusals.{first_refusal, refused}
 use Rattle.base.specs.Tables.{unless_refused}
 use Rattle.base.proofs.FirstRefusal.{at-refusal, at_none}
 use Rattle.base.specs.Range.{all_below}
 use Rattle.cluster_table.specs.Table.{table_copies, mark, words, sound_table, header}
 use Rattle.cluster_table.specs.declared.ClusterFractions.{ClusterFractions}
 use Rattle.cluster_table.specs.Fractions.{table_fractions}
-use Rattle.clusters.specs.declared.Closing.TheVariants.{Refused}
-use Rattle.clusters.specs.Answers.{close_refusals, close_refusal, closed, close_answer}
+use Rattle.clusters.specs.Answers.{close_refusals, close_refusal, close_answer}
 
 module _ (t : List ℕ) where
   -- the tests in their order
@@ -28,24 +28,24 @@ module _ (t : List ℕ) where
   unfolding close_refusal close_refusals first_refusal
   chain = refl
 
-  refused : (r : ℕ) → (r ≡ 0 → ⊥) → close_refusal t ≡ r → Refused r ≡ close_answer t
+  refuses : (r : ℕ) → (r ≡ 0 → ⊥) → close_refusal t ≡ r → refused r ≡ close_answer t
   unfolding close_answer
-  refused r m e = sym (ap (λ (k : ℕ). unless_refused k (closed (table_fractions t)) (Refused k)) e ∙ at-refusal r (closed (table_fractions t)) (Refused r) m)
+  refuses r m e = sym (ap (λ (k : ℕ). unless_refused k (Ok (table_fractions t)) (refused k)) e ∙ at-refusal r (Ok (table_fractions t)) (refused r) m)
 
-  pub no_words : length t < header → Refused 7 ≡ close_answer t
-  no_words l = refused 7 (λ z. omega arith) (chain ∙ rw (lt-ltb (length t) header l))
+  pub no_words : length t < header → refused 7 ≡ close_answer t
+  no_words l = refuses 7 (λ z. omega arith) (chain ∙ rw (lt-ltb (length t) header l))
 
   module _ (n : ℕ) (e : n ≡ table_copies t) (h : header ≤ length t) where
-    pub short : length t < words n → Refused 7 ≡ close_answer t
-    short l = refused 7 (λ z. omega arith) (chain ∙ rw (le-ltb (length t) header h, ← e, lt-ltb (length t) (words n) l))
+    pub short : length t < words n → refused 7 ≡ close_answer t
+    short l = refuses 7 (λ z. omega arith) (chain ∙ rw (le-ltb (length t) header h, ← e, lt-ltb (length t) (words n) l))
 
     module _ (l : words n ≤ length t) where
-      pub many-copies : max_copies < n → Refused 9 ≡ close_answer t
-      many-copies m = refused 9 (λ z. omega arith) (chain ∙ rw (le-ltb (length t) header h, ← e, le-ltb (length t) (words n) l, lt-ltb max_copies n m))
+      pub many-copies : max_copies < n → refused 9 ≡ close_answer t
+      many-copies m = refuses 9 (λ z. omega arith) (chain ∙ rw (le-ltb (length t) header h, ← e, le-ltb (length t) (words n) l, lt-ltb max_copies n m))
 
       module _ (m : n ≤ max_copies) (b : Bool) (tested : b ≡ sound_table n t) where
-        pub unsound : b ≡ false → Refused 9 ≡ close_answer t
-        unsound u = refused 9 (λ z. omega arith) (chain ∙ rw (le-ltb (length t) header h, ← e, le-ltb (length t) (words n) l, le-ltb max_copies n m, ← tested, u))
+        pub unsound : b ≡ false → refused 9 ≡ close_answer t
+        unsound u = refuses 9 (λ z. omega arith) (chain ∙ rw (le-ltb (length t) header h, ← e, le-ltb (length t) (words n) l, le-ltb max_copies n m, ← tested, u))
 
         module _ (sound : b ≡ true) where
           -- only the marks are left to test
@@ -53,12 +53,12 @@ module _ (t : List ℕ) where
           close-last = chain ∙ rw (le-ltb (length t) header h, ← e, le-ltb (length t) (words n) l, le-ltb max_copies n m, ← tested, sound)
 
           module _ (d : Bool) (marked : d ≡ all_below n (λ i. eqb (mark n t i) 1)) where
-            pub waits : d ≡ false → Refused 12 ≡ close_answer t
-            waits a = refused 12 (λ z. omega arith) (close-last ∙ rw (← marked, a))
+            pub waits : d ≡ false → refused 12 ≡ close_answer t
+            waits a = refuses 12 (λ z. omega arith) (close-last ∙ rw (← marked, a))
 
             close-none : d ≡ true → close_refusal t ≡ 0
             close-none a = close-last ∙ rw (← marked, a)
 
-            pub gives : d ≡ true → (f : ClusterFractions) → f ≡ table_fractions t → closed f ≡ close_answer t
+            pub gives : d ≡ true → (f : ClusterFractions) → f ≡ table_fractions t → Ok f ≡ close_answer t
             unfolding close_answer
-            gives a f e = ap closed e ∙ sym (at_none (close_refusal t) (closed (table_fractions t)) (Refused (close_refusal t)) (close-none a))
+            gives a f e = ap Ok e ∙ sym (at_none (close_refusal t) (Ok (table_fractions t)) (refused (close_refusal t)) (close-none a))

@@ -9,10 +9,11 @@ use Rattle.floats.specs.Whole.{round_of}
 use Rattle.cell.specs.Reach.{sound_reach, reach}
 use Rattle.cell.specs.Cell.{extent_of, valid_axis, valid, min_image, image_axis, squared, minus, distance2, point_at, finite_point}
 use Rattle.frame_limits.specs.Limits.{exceeds, any_over, ragged, long, long_indices, bound_over, lengths, counts, bounds, coordinates, validity, limit_refusals, frame_refusals}
-use Rattle.base.specs.declared.Answer.{Answer}
-use Rattle.base.specs.declared.Answer.TheVariants.{Accepted, Refused}
+use Rattle.std.proofs.Common.{Result, Ok}
+use Rattle.std.specs.Bool.{⊤}
+use Rattle.base.specs.declared.Refused.{Refused}
 use Rattle.base.specs.Tables.{over, first_numbers}
-use Rattle.base.specs.Refusals.{first_refusal}
+use Rattle.base.specs.Refusals.{first_refusal, refused}
 use Rattle.cell.proofs.Examples.{up_to}
 use Rattle.pick_lists.specs.Sound.{finite_atom, rises, all_finite, pick_list, sound_starts, sound_lists, soundness}
 use Rattle.pick_lists.specs.Input.{Input, input_refusals}
@@ -22,8 +23,7 @@ use Rattle.union_find.specs.Parents.{walk, root_of, shortened, compressed, joine
 use Rattle.cluster_table.specs.Table.{opened, counted, contact, sound_words, sound_table}
 use Rattle.cluster_table.specs.Refusals.{other_cutoff, row_table_refusals}
 use Rattle.cluster_table.specs.Fractions.{ratio, three_fractions, table_fractions}
-use Rattle.clusters.specs.declared.Closing.{Closing}
-use Rattle.clusters.specs.declared.Closing.TheVariants as closing
+use Rattle.cluster_table.specs.declared.ClusterFractions.{ClusterFractions}
 use Rattle.clusters.specs.Answers.{pass, row_table, open_refusals, open_refusal, open_after, row_refusal, row_after, close_refusals, close_refusal, close_answer, open_answer, row_answer}
 use Rattle.clusters.specs.Order.{Call, row, close, reopen, call_after, after}
 
@@ -56,8 +56,8 @@ opening k = open_after 4 k lent
 
 -- what a call answers: Row and Open acceptance or a refusal, Close the fractions or a refusal
 pub data Answered : Type 0 where
-  took : Answer → Answered
-  gave : Closing → Answered
+  took : Result ⊤ Refused → Answered
+  gave : Result ClusterFractions Refused → Answered
 
 pub answer_to : Input → List ℕ → Call → Answered
 answer_to f t (row k i) = took (row_answer f k t i)
@@ -70,10 +70,14 @@ answers_of f t [] = []
 answers_of f t (c ∷ cs) = answer_to f t c ∷ answers_of f (call_after f t c) cs
 
 abbrev yes : Answered
-yes = took Accepted
+yes = took (Ok tt)
 
 abbrev no : ℕ → Answered
-no r = took (Refused r)
+no r = took (refused r)
+
+-- by the bits of the fractions
+abbrev gives : ℕ → ℕ → ℕ → Answered
+gives l c p = gave (Ok (record { largest = of_bits binary32 l; contacted = of_bits binary32 c; pair = of_bits binary32 p }))
 
 abbrev at : ℕ → Call
 at i = row rust_cutoff i
@@ -112,14 +116,14 @@ pub record Worked : Type 0 where
   -- rows 3, 2 and 1 are accepted, row 7 is not below 4, row 1 came before, row 0 is still to come, 4,097 copies are too many, and
   -- five need 18 words; the fractions are 2 of 3, 3 of 4 and 2 of 6
   pub answers : answers_of input (opening rust_cutoff) calls
-      ≡ yes ∷ yes ∷ yes ∷ no 10 ∷ no 11 ∷ gave (closing.Refused 12) ∷ no 5 ∷ no 7 ∷ yes
-      ∷ gave (closing.Fractions (of_bits binary32 0x3f2a_aaab) (of_bits binary32 0x3f40_0000) (of_bits binary32 0x3eaa_aaab)) ∷ []
+      ≡ yes ∷ yes ∷ yes ∷ no 10 ∷ no 11 ∷ gave (refused 12) ∷ no 5 ∷ no 7 ∷ yes
+      ∷ gives 0x3f2a_aaab 0x3f40_0000 0x3eaa_aaab ∷ []
   -- n, the contacts and the cutoff's bits, the parents (0 over 1, 1 over 2), the degrees, the marks, and the word past the table
   pub table : after input (opening rust_cutoff) calls ≡ 4 ∷ 2 ∷ 0x4086_6666 ∷ 0 ∷ 0 ∷ 1 ∷ 3 ∷ 1 ∷ 2 ∷ 1 ∷ 0 ∷ 1 ∷ 1 ∷ 1 ∷ 1 ∷ 9 ∷ []
   -- at 6: 17 for another cutoff comes after 16 and before 10; the fractions are 3 of 3, 4 of 4 and 4 of 6
   pub answers-at-six : answers_of input (opening six) mixed
-      ≡ yes ∷ no 17 ∷ no 16 ∷ no 16 ∷ no 16 ∷ no 16 ∷ no 16 ∷ no 17 ∷ no 10 ∷ yes ∷ no 11 ∷ gave (closing.Refused 12) ∷ no 5 ∷ no 16 ∷ no 7 ∷ yes ∷ yes
-      ∷ gave (closing.Fractions (of_bits binary32 0x3f80_0000) (of_bits binary32 0x3f80_0000) (of_bits binary32 0x3f2a_aaab)) ∷ []
+      ≡ yes ∷ no 17 ∷ no 16 ∷ no 16 ∷ no 16 ∷ no 16 ∷ no 16 ∷ no 17 ∷ no 10 ∷ yes ∷ no 11 ∷ gave (refused 12) ∷ no 5 ∷ no 16 ∷ no 7 ∷ yes ∷ yes
+      ∷ gives 0x3f80_0000 0x3f80_0000 0x3f2a_aaab ∷ []
   pub table-at-six : after input (opening six) mixed ≡ 4 ∷ 4 ∷ 0x40c0_0000 ∷ 0 ∷ 0 ∷ 0 ∷ 0 ∷ 3 ∷ 2 ∷ 2 ∷ 1 ∷ 1 ∷ 1 ∷ 1 ∷ 1 ∷ 9 ∷ []
 
 pub worked : Worked

@@ -11,9 +11,10 @@ use native.Mathlib.Decide.{dec_le}
 use lib.ListN.{length}
 use lib.Dec.{eqb, ltb, leb}
 use lib.Ieee.{Float}
+use Rattle.std.proofs.Common.{Ok}
 use borrow.Author.Tests.{lt-ltb, le-ltb, le-leb, lt-leb}
 use Rattle.base.specs.Limits.{max_copies}
-use Rattle.base.specs.Refusals.{refuse, first_refusal}
+use Rattle.base.specs.Refusals.{refuse, first_refusal, refused}
 use Rattle.base.specs.Range.{bit, all_below, count}
 use Rattle.union_find.specs.Parents.{largest_set}
 use Rattle.union_find.proofs.Forest.{sound-parents}
@@ -26,8 +27,7 @@ use Rattle.cluster_table.specs.Fractions.{three_fractions, table_fractions}
 use Rattle.cluster_table.proofs.Parts.{parents-length}
 use Rattle.cluster_table.proofs.Checks.{words_right, table-words}
 use Rattle.cluster_table.proofs.RowChecks.{table-chain}
-use Rattle.clusters.specs.declared.Closing.TheVariants.{Refused}
-use Rattle.clusters.specs.Answers.{closed, close_answer}
+use Rattle.clusters.specs.Answers.{close_answer}
 use Rattle.clusters.specs.Graph.{degree_of, contacts_of, Largest}
 use Rattle.clusters.specs.Order.{graph_fractions}
 use Rattle.clusters.proofs.Holds.{Holds}
@@ -78,12 +78,12 @@ module _ {n bits : ℕ} {g : ℕ → ℕ → Bool} {acc : ℕ → Bool} {t : Lis
   all-marks = all_same n (λ i. eqb (mark n t i) 1) acc mark-test
 
   -- some row is not accepted
-  pub close-waits : n ≤ max_copies → (i : ℕ) → i < n → acc i ≡ false → close_answer t ≡ Refused 12
+  pub close-waits : n ≤ max_copies → (i : ℕ) → i < n → acc i ≡ false → close_answer t ≡ refused 12
   close-waits l i h e =
       sym (waits t n (sym s.own) (omega (arith, s.long)) s.long l true (sym sound-table) refl false (sym (all-marks ∙ all-false n acc i h e)) refl)
 
   -- every row is accepted
-  pub close-full : n ≤ max_copies → ((i : ℕ) → i < n → acc i ≡ true) → close_answer t ≡ closed (table_fractions t)
+  pub close-full : n ≤ max_copies → ((i : ℕ) → i < n → acc i ≡ true) → close_answer t ≡ Ok (table_fractions t)
   close-full l a =
       sym (gives t n (sym s.own) (omega (arith, s.long)) s.long l true (sym sound-table) refl true (sym (all-marks ∙ all_true n acc a)) refl (table_fractions t) refl)
 
@@ -108,5 +108,5 @@ module _ {n bits : ℕ} {g : ℕ → ℕ → Bool} {acc : ℕ → Bool} {t : Lis
       (λ z. ap (graph_fractions n g) (one-largest (largest-held (omega (arith, z.below))) z)) c
 
   -- the fractions of the graph, for the size m of its largest cluster
-  pub close-gives : n ≤ max_copies → ((i : ℕ) → i < n → acc i ≡ true) → (m : ℕ) → (n < 2) ⊎ Largest n g m → close_answer t ≡ closed (graph_fractions n g m)
-  close-gives l a m c = close-full l a ∙ ap closed (fractions-are ∙ one_size m c)
+  pub close-gives : n ≤ max_copies → ((i : ℕ) → i < n → acc i ≡ true) → (m : ℕ) → (n < 2) ⊎ Largest n g m → close_answer t ≡ Ok (graph_fractions n g m)
+  close-gives l a m c = close-full l a ∙ ap Ok (fractions-are ∙ one_size m c)

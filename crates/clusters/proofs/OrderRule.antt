@@ -12,11 +12,11 @@ use lib.ListN.{length}
 use lib.Dec.{T, eqb, leb}
 use lib.Ieee.{Float, binary32, fits, of_bits, to_bits}
 use lib.Ieee.Bits.{of_bits-to_bits}
+use Rattle.std.proofs.Common.{Ok}
 use Rattle.base.specs.Limits.{max_copies}
-use Rattle.base.specs.declared.Answer.TheVariants.{Accepted, Refused}
-use Rattle.base.specs.Refusals.{Refusal, refuse, first_refusal, answer_of, answer_number}
+use Rattle.base.specs.Refusals.{Refusal, refuse, first_refusal, answer_of}
 use Rattle.base.specs.Tables.{unless_refused}
-use Rattle.base.proofs.FirstRefusal.{first-append, at_none, number-answered}
+use Rattle.base.proofs.FirstRefusal.{first-append, at_none, accepted-zero}
 use Rattle.cell.specs.Reach.{reach, sound_reach}
 use Rattle.floats.proofs.Tests.{holds}
 use Rattle.pick_lists.specs.Sound.{copies}
@@ -32,10 +32,6 @@ use Rattle.clusters.proofs.Refusals.{open-room, open-same}
 use Rattle.clusters.proofs.Rows.{holds_same}
 use Rattle.clusters.proofs.Held.{row-answer, close-waits, close-gives}
 use Rattle.clusters.proofs.Calls.{State, same_rows, state-first, state-answer, answer-length, full, largest-contact}
-
--- an accepted call had no refusal
-none-accepted : (r : ℕ) → answer_of r ≡ Accepted → r ≡ 0
-none-accepted r e = sym (number-answered answer_number Refused Accepted refl (λ k. refl) r) ∙ ap answer_number e
 
 -- a call that is not accepted changes nothing
 not-accepted : (r : ℕ) (x y : List ℕ) → not (is_accepted (answer_of r)) ≡ true → unless_refused r x y ≡ y
@@ -165,12 +161,12 @@ module _ (f : Input) where
           (runs cs (λ i. acc i || accepts f t c i) (call_after f t c) p.1 (never-rest t c cs e) (call-state acc t c p.0 (never_first t c cs e) s))
 
       -- ---- the rule, from the opened table on
-      module _ (lent : List ℕ) (taken : open_answer n k₀ lent ≡ Accepted) where
+      module _ (lent : List ℕ) (taken : open_answer n k₀ lent ≡ Ok tt) where
         t₀ : List ℕ
         t₀ = open_after n k₀ lent
 
         none : open_refusal n k₀ lent ≡ 0
-        none = none-accepted (open_refusal n k₀ lent) taken
+        none = accepted-zero (open_refusal n k₀ lent) (sym taken)
 
         room : (n ≤ max_copies) × (sound_reach k₀ ≡ true) × (words n ≤ length lent)
         room = open-room n k₀ lent none

@@ -1,10 +1,10 @@
 -- docs/RULES.md, 'Answers by operation': Open, Row and Close, by what they answer and the table that they leave.
 -- Definitions only. Assumes nothing.
-use Rattle.std.specs.Prelude.{Bool, cond, not, List, [], ◌∷◌, ◌++◌, ℕ, zero, suc, ◌-◌, length, set, eqb, ltb, Float}
+use Rattle.std.specs.Prelude.{Bool, cond, not, List, [], ◌∷◌, ◌++◌, ℕ, zero, suc, ◌-◌, length, set, eqb, ltb, Float, Result, Ok, Err, ⊤}
 use Rattle.std.specs.Float.{binary32}
 use Rattle.std.specs.Float.Ieee.{to_bits}
-use Rattle.base.specs.declared.Answer.{Answer}
-use Rattle.base.specs.Refusals.{Refusal, refuse, first_refusal, answer_of}
+use Rattle.base.specs.declared.Refused.{Refused}
+use Rattle.base.specs.Refusals.{Refusal, refuse, first_refusal, refused, answer_of}
 use Rattle.base.specs.Limits.{max_copies}
 use Rattle.base.specs.Tables.{unless_refused}
 use Rattle.cell.specs.Reach.{reach}
@@ -16,19 +16,11 @@ use Rattle.cluster_table.specs.declared.ClusterFractions.{ClusterFractions}
 use Rattle.cluster_table.specs.Table.{header, table_copies, mark, mark_at, words, opened, contact, sound_table}
 use Rattle.cluster_table.specs.Refusals.{row_table_refusals}
 use Rattle.cluster_table.specs.Fractions.{table_fractions}
-use Rattle.clusters.specs.declared.Closing.{Closing}
-use Rattle.clusters.specs.declared.Closing.TheVariants.{Fractions, Refused}
 
--- ---- Close's cases (Open and Row answer by `base`'s `answer_of`)
--- a refusal's number, 0 for the fractions
-abbrev pub close_number : Closing → ℕ
-close_number (Refused n) = n
-close_number (Fractions largest contacted pair) = 0
-
--- largest, contacted and pair fraction; none with a refusal
-abbrev pub close_values : Closing → List Float
-close_values (Refused n) = []
-close_values (Fractions largest contacted pair) = largest ∷ contacted ∷ pair ∷ []
+-- largest, contacted and pair fraction, as Close answers them; none with a refusal
+abbrev pub close_values : Result ClusterFractions Refused → List Float
+close_values (Ok f) = f.largest ∷ f.contacted ∷ f.pair ∷ []
+close_values (Err e) = []
 
 -- ---- Open
 unfoldable pub open_refusals : ℕ → Float → List ℕ → List Refusal
@@ -40,7 +32,7 @@ unfolding open_refusals first_refusal
 open_refusal n k t = first_refusal (open_refusals n k t)
 
 -- what Open for n copies with the cutoff k answers on a table
-abbrev pub open_answer : ℕ → Float → List ℕ → Answer
+abbrev pub open_answer : ℕ → Float → List ℕ → Result ⊤ Refused
 open_answer n k t = answer_of (open_refusal n k t)
 
 unfoldable pub open_after : ℕ → Float → List ℕ → List ℕ
@@ -64,7 +56,7 @@ unfolding input_refusals row_table_refusals first_refusal
 row_refusal f k t i = first_refusal (input_refusals f ++ row_table_refusals (copies f.starts) k t i)
 
 -- what Row i with the cutoff k answers on a table
-abbrev pub row_answer : Input → Float → List ℕ → ℕ → Answer
+abbrev pub row_answer : Input → Float → List ℕ → ℕ → Result ⊤ Refused
 row_answer f k t i = answer_of (row_refusal f k t i)
 
 unfoldable pub row_after : Input → Float → List ℕ → ℕ → List ℕ
@@ -86,11 +78,7 @@ unfoldable pub close_refusal : List ℕ → ℕ
 unfolding close_refusals first_refusal
 close_refusal t = first_refusal (close_refusals t)
 
--- the answer that gives three fractions
-abbrev pub closed : ClusterFractions → Closing
-closed f = Fractions f.largest f.contacted f.pair
-
 -- what Close answers
-unfoldable pub close_answer : List ℕ → Closing
+unfoldable pub close_answer : List ℕ → Result ClusterFractions Refused
 unfolding close_refusal table_fractions
-close_answer t = unless_refused (close_refusal t) (closed (table_fractions t)) (Refused (close_refusal t))
+close_answer t = unless_refused (close_refusal t) (Ok (table_fractions t)) (refused (close_refusal t))

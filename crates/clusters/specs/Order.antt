@@ -1,11 +1,10 @@
 -- docs/RULES.md, 'The order rule': one claim about any list of calls on one opened cluster table.
 -- Definitions only. Assumes nothing.
-use Rattle.std.specs.Prelude.{◌≡◌, Bool, true, false, not, ◌&&◌, ◌||◌, ◌↔◌, ◌⊎◌, List, [], ◌∷◌, ◌++◌, ℕ, ◌<◌, eqb, ltb, leb, Float}
+use Rattle.std.specs.Prelude.{◌≡◌, Bool, true, false, not, ◌&&◌, ◌||◌, ◌↔◌, ◌⊎◌, List, [], ◌∷◌, ◌++◌, ℕ, ◌<◌, eqb, ltb, leb, Float, Result, Ok, Err, ⊤}
 use Rattle.std.specs.Float.{binary32}
 use Rattle.std.specs.Float.Ieee.{fits, to_bits}
-use Rattle.base.specs.declared.Answer.{Answer}
-use Rattle.base.specs.declared.Answer.TheVariants.{Accepted, Refused}
-use Rattle.base.specs.Refusals.{refuse, first_refusal, answer_of}
+use Rattle.base.specs.declared.Refused.{Refused}
+use Rattle.base.specs.Refusals.{refuse, first_refusal, refused, answer_of}
 use Rattle.cell.specs.Reach.{reach}
 use Rattle.pick_lists.specs.Sound.{copies}
 use Rattle.pick_lists.specs.Input.{Input, input_refusals}
@@ -16,8 +15,7 @@ use Rattle.cluster_table.specs.Table.{contacts, table_cutoff, parents, degree}
 use Rattle.cluster_table.specs.Refusals.{other_cutoff}
 use Rattle.cluster_table.specs.declared.ClusterFractions.{ClusterFractions}
 use Rattle.cluster_table.specs.Fractions.{three_fractions}
-use Rattle.clusters.specs.declared.Closing.TheVariants as closing
-use Rattle.clusters.specs.Answers.{open_refusal, open_answer, open_after, row_refusal, row_answer, row_after, closed, close_answer}
+use Rattle.clusters.specs.Answers.{open_refusal, open_answer, open_after, row_refusal, row_answer, row_after, close_answer}
 use Rattle.clusters.specs.Graph.{Chain, degree_of, contacts_of, Largest, graph, contact_graph}
 
 pub data Call : Type 0 where
@@ -41,9 +39,9 @@ after f t [] = t
 after f t (c ∷ cs) = after f (call_after f t c) cs
 
 -- the answer is acceptance
-abbrev pub is_accepted : Answer → Bool
-is_accepted Accepted = true
-is_accepted (Refused n) = false
+abbrev pub is_accepted : Result ⊤ Refused → Bool
+is_accepted (Ok x) = true
+is_accepted (Err e) = false
 
 -- the call is row i, and it is accepted
 unfoldable pub accepts : Input → List ℕ → Call → ℕ → Bool
@@ -94,11 +92,11 @@ pub record Ruled (f : Input) (n : ℕ) (k₀ : Float) (t₀ t : List ℕ) (acc :
   -- Open answers as on the opened table
   pub opens : (m : ℕ) (k : Float) → open_answer m k t ≡ open_answer m k t₀
   -- Close is refused 12 while some row is not accepted
-  pub waits : (i : ℕ) → i < n → acc i ≡ false → close_answer t ≡ closing.Refused 12
+  pub waits : (i : ℕ) → i < n → acc i ≡ false → close_answer t ≡ refused 12
   -- once every row is accepted, Close gives the fractions of the contact graph, whatever the order; below two copies they are zeros
   pub gives : ((i : ℕ) → i < n → acc i ≡ true)
       → (m : ℕ) → (n < 2) ⊎ Largest n (contact_graph (copies_touch f k₀) n) m
-      → close_answer t ≡ closed (graph_fractions n (contact_graph (copies_touch f k₀) n) m)
+      → close_answer t ≡ Ok (graph_fractions n (contact_graph (copies_touch f k₀) n) m)
   -- a largest cluster there is
   pub largest : 0 < n → (m : ℕ) × Largest n (contact_graph (copies_touch f k₀) n) m
 
@@ -111,7 +109,7 @@ OrderRule =
     let t₀ = open_after n k₀ lent in
     fits binary32 k₀ ≡ true
     → cutoffs_fit cs ≡ true
-    → open_answer n k₀ lent ≡ Accepted
+    → open_answer n k₀ lent ≡ Ok tt
     → never_reopened f t₀ cs ≡ true
     → (before rest : List Call) → cs ≡ before ++ rest
     → Ruled f n k₀ t₀ (after f t₀ before) (accepted f t₀ before)

@@ -11,35 +11,28 @@ ghost use Rattle.touch.specs.Touch.{copies_touch};
 ghost use Rattle.cluster_table.specs.Table.{words, sound_table};
 ghost use Rattle.clusters.specs.Answers.{row_table, open_answer, open_after, row_answer, row_after, close_answer};
 
-use base::{Answer, MAX_COPIES};
+use base::{MAX_COPIES, Refused};
 use cell::Cell;
-use cluster_table::HEADER;
-
-// What Close answers: the largest, contacted and pair fractions.
-#[derive(Clone, Copy)]
-pub enum Closing {
-    Fractions(f32, f32, f32),
-    Refused(u32),
-}
+use cluster_table::{ClusterFractions, HEADER};
 
 // ---- Open
 
 // Open: 5, 16, 7 in this order, or a table of n copies. Its rows are for the cutoff, which it keeps.
-pub fn open(table: &mut [u32], n: usize, cutoff: f32) -> Answer
+pub fn open(table: &mut [u32], n: usize, cutoff: f32) -> Result<(), Refused>
     ensures answer { result ≡ open_answer n cutoff table.old }
     ensures after { table.new ≡ open_after n cutoff table.old }
 {
     if n > MAX_COPIES {
-        return Answer::Refused(5);
+        return Err(Refused::Copies);
     }
     if !cell::sound_reach(cutoff) {
-        return Answer::Refused(16);
+        return Err(Refused::Reach);
     }
     if table.len() < HEADER + 3 * n {
-        return Answer::Refused(7);
+        return Err(Refused::Short);
     }
-    cluster_table::open_table(table, n, numbers::class::to_bits32(cutoff));
-    Answer::Accepted
+    cluster_table::open_table(table, n, numbers::class::to_bits(cutoff));
+    Ok(())
 }
 
 // ---- Row
@@ -61,7 +54,7 @@ pub fn scan_row(
 {
     let n = starts.len() - 1;
     let e = cell::extent(cell);
-    let g = gates::screen_of(cell, cutoff, false);
+    let g = gates::gates_of(cell, cutoff);
     let s = spans::copy_span(solutes, starts, picks, i);
     // Gates are quicker, and say nothing of copies that stand over an extent apart: from the first of those on, images decide.
     let mut wide = false;
@@ -73,7 +66,18 @@ pub fn scan_row(
             cluster_table::add_contact(table, n, i, j);
         }
         wide = wide | spans::outside(e, s, c);
-        j = spans::next_close(gates::widened(g, wide), solutes, starts, picks, s, j + 1);
+        j = if wide {
+            spans::next_close(
+                gates::images_of(e, cutoff),
+                solutes,
+                starts,
+                picks,
+                s,
+                j + 1,
+            )
+        } else {
+            spans::next_close(g, solutes, starts, picks, s, j + 1)
+        };
     }
     cluster_table::set_mark(table, n, i);
 }
@@ -87,45 +91,38 @@ pub fn row(
     picks: &[u32],
     table: &mut [u32],
     i: usize,
-) -> Answer
+) -> Result<(), Refused>
     ensures answer { result ≡ row_answer (given cell solutes.now [] starts.now picks.now) cutoff table.old i }
     ensures after { table.new ≡ row_after (given cell solutes.now [] starts.now picks.now) cutoff table.old i }
 {
-    let input = pick_lists::input_refusal(cell, solutes, &solutes[..0], starts, picks);
-    if input != 0 {
-        return Answer::Refused(input);
-    }
-    let asked = cluster_table::row_refusal(table, starts.len() - 1, cutoff, i);
-    if asked != 0 {
-        return Answer::Refused(asked);
-    }
+    pick_lists::input_refusal(cell, solutes, &[], starts, picks)?;
+    cluster_table::row_refusal(table, starts.len() - 1, cutoff, i)?;
     scan_row(cell, cutoff, solutes, starts, picks, table, i);
-    Answer::Accepted
+    Ok(())
 }
 
 // ---- Close
 
 // Close: 7, 9, 12 in this order, or the three fractions; it writes nothing.
-pub fn close(table: &[u32]) -> Closing
+pub fn close(table: &[u32]) -> Result<ClusterFractions, Refused>
     ensures answer { result ≡ close_answer table.now }
 {
     if table.len() < HEADER {
-        return Closing::Refused(7);
+        return Err(Refused::Short);
     }
     // The table says its own number of copies; nothing else is given.
-    let n = base::wide(table[0]);
+    let n = table[0] as usize;
     if table.len() < HEADER + 3 * n {
-        return Closing::Refused(7);
+        return Err(Refused::Short);
     }
     if MAX_COPIES < n {
-        return Closing::Refused(9);
+        return Err(Refused::Table);
     }
     if !cluster_table::is_sound(table, n) {
-        return Closing::Refused(9);
+        return Err(Refused::Table);
     }
     if !cluster_table::all_marked(table, n) {
-        return Closing::Refused(12);
+        return Err(Refused::RowLeft);
     }
-    let f = cluster_table::fractions(table, n);
-    Closing::Fractions(f.largest, f.contacted, f.pair)
+    Ok(cluster_table::fractions(table, n))
 }

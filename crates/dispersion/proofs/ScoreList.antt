@@ -1,21 +1,19 @@
 -- The score of n centers: it reads no more than n centers of its list, the pairs of 4,096 centers are few, and each case by its tests. Assumes nothing.
 use mathlib.Core.Path.{◌≡◌, refl}
-use mathlib.Core.Bool.{true, false}
 use mathlib.Core.List.{List, ◌++◌}
 use Prim.Native.Nat.{ℕ, zero, suc, ◌+◌, ◌-◌, ◌*◌, ◌≤◌, ◌<◌}
 use native.Mathlib.Nat.{mul-le-mul}
 use native.Mathlib.Omega.{arith}
 use lib.ListN.{length, drop, length-append, get_or-append}
-use lib.Ieee.{Float, nan, binary32, binary64, add, div, le, of_bits}
-use borrow.Author.Tests.{lt-ltb, le-ltb}
+use lib.Ieee.{Float, nan, binary64, add}
 use Rattle.pick_lists.specs.Input.{Input}
 use Rattle.base.specs.Limits.{max_copies}
 use Rattle.cell.specs.declared.Vec3.{Vec3}
-use Rattle.cell.specs.Cell.{epsilon, extent_of, distance2, point_at}
+use Rattle.cell.specs.Cell.{extent_of, distance2, point_at}
 use Rattle.base.specs.Tables.{over}
 use Rattle.pick_lists.specs.Sound.{copies}
 use Rattle.centers.specs.Centers.{centers_of}
-use Rattle.dispersion.specs.Dispersion.{clamped, expected_of, row_sum, pair_sum, observed_of, score_of, dispersion_of}
+use Rattle.dispersion.specs.Dispersion.{row_sum, pair_sum, observed_of, score_of, dispersion_of}
 use Rattle.centers.proofs.CenterList.{centers-length}
 
 pub few-pairs : (n : ℕ) → n ≤ max_copies → n * (n - 1) ≤ max_copies * 4095
@@ -59,17 +57,3 @@ module _ (f : Input) (t u : List Float) (left : u ≡ over (centers_of f) t) whe
   pub listed-score : score_of (extent_of f.cell) u (copies f.starts) ≡ dispersion_of f
   unfolding over dispersion_of
   listed-score = rw left (score-append (extent_of f.cell) (centers_of f) (drop (length (centers_of f)) t) (copies f.starts) (omega (arith, centers-length f)))
-
--- ---- the cases of the score
-module _ (e : Vec3) (cs : List Float) (n : ℕ) where
-  pub score-alone : n < 2 → of_bits binary32 0x3f80_0000 ≡ score_of e cs n
-  unfolding score_of
-  score-alone h = rw (lt-ltb n 2 h)
-
-  pub score-small : 2 ≤ n → le (expected_of e) epsilon ≡ true → of_bits binary32 0 ≡ score_of e cs n
-  unfolding score_of
-  score-small h g = rw (le-ltb n 2 h, g)
-
-  pub score-ratio : 2 ≤ n → le (expected_of e) epsilon ≡ false → clamped (div binary32 (observed_of e cs n) (expected_of e)) ≡ score_of e cs n
-  unfolding score_of
-  score-ratio h g = rw (le-ltb n 2 h, g)

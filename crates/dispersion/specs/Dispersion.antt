@@ -1,5 +1,5 @@
 -- docs/RULES.md, 'Centers and dispersion' and Dispersion. Definitions only. Assumes nothing.
-use Rattle.std.specs.Prelude.{ℕ, zero, suc, ◌+◌, ◌-◌, ◌*◌, ◌/◌, cond, List, [], ◌∷◌, ltb, pos, Float}
+use Rattle.std.specs.Prelude.{ℕ, zero, suc, ◌+◌, ◌-◌, ◌*◌, ◌/◌, cond, List, [], ◌∷◌, ltb, pos, Float, Result, Ok, Err}
 use Rattle.std.specs.Float.{binary32, binary64}
 use Rattle.std.specs.Float.Ieee.{add, div, lt, le, of_int, of_bits}
 use Rattle.floats.specs.Convert.{narrow_of}
@@ -7,13 +7,12 @@ use Rattle.floats.specs.Root.{sqrt_of}
 use Rattle.floats.specs.Constants.{zero32, one32}
 use Rattle.cell.specs.declared.Vec3.{Vec3}
 use Rattle.cell.specs.Cell.{epsilon, extent_of, squared, distance2, point_at}
-use Rattle.base.specs.Refusals.{first_refusal}
+use Rattle.base.specs.declared.Refused.{Refused}
+use Rattle.base.specs.Refusals.{first_refusal, refused}
 use Rattle.base.specs.Tables.{unless_refused}
 use Rattle.pick_lists.specs.Sound.{copies}
 use Rattle.pick_lists.specs.Input.{Input, input_refusals}
 use Rattle.centers.specs.Centers.{centers_of}
-use Rattle.dispersion.specs.declared.Dispersed.{Dispersed}
-use Rattle.dispersion.specs.declared.Dispersed.TheVariants.{Score, Refused}
 
 -- x to 0 .. 1
 unfoldable pub clamped : Float → Float
@@ -55,16 +54,12 @@ unfoldable pub dispersion_refusal : Input → ℕ
 unfolding input_refusals first_refusal
 dispersion_refusal f = first_refusal (input_refusals f)
 
--- what Dispersion answers: the score, or the refusal's number
-unfoldable pub dispersion_answer : Input → Dispersed
+-- what Dispersion answers: the score, or the refusal
+unfoldable pub dispersion_answer : Input → Result Float Refused
 unfolding dispersion_refusal dispersion_of
-dispersion_answer f = let r = dispersion_refusal f in unless_refused r (Score (dispersion_of f)) (Refused r)
+dispersion_answer f = let r = dispersion_refusal f in unless_refused r (Ok (dispersion_of f)) (refused r)
 
--- the number of each case of an answer, and its values: the score, none with a refusal
-abbrev pub dispersion_number : Dispersed → ℕ
-dispersion_number (Score s) = 0
-dispersion_number (Refused n) = n
-
-abbrev pub dispersion_values : Dispersed → List Float
-dispersion_values (Score s) = s ∷ []
-dispersion_values (Refused n) = []
+-- the values of an answer: the score, none with a refusal
+abbrev pub dispersion_values : Result Float Refused → List Float
+dispersion_values (Ok s) = s ∷ []
+dispersion_values (Err e) = []

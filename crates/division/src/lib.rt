@@ -20,14 +20,11 @@ fn octants(depth: usize, order: &[u32], b: OctreeBounds) -> usize
     ensures small { result ≤ 8 }
     ensures deep { 0 < result → depth < max_depth }
 {
-    if depth < MAX_DEPTH {
-        if order.len() > 1 {
-            if b.is_wide() {
-                return 8;
-            }
-        }
+    if depth < MAX_DEPTH && order.len() > 1 && b.is_wide() {
+        8
+    } else {
+        0
     }
-    0
 }
 
 // Where a node splits, arranges both order lists by octant and counts each octant's points. Answers how many octants there are to visit.

@@ -87,7 +87,7 @@ pub mod RootUnits
 pub mod RootLoop
 -- the fields of a rounded root, as `even_root` gives them
 pub mod RootCut
--- the arms of `sqrt_bits32` and `sqrt_bits64`
+-- the arms of `sqrt_bits`
 pub mod RootBits
 -- ---- the standard: the definitions of specs/ meet IEEE 754's own words, and nothing else does
 -- floor and round

@@ -1,11 +1,10 @@
--- The square root on bit patterns, in any format: what each arm of `sqrt_bits32` and `sqrt_bits64` returns. Assumes nothing.
+-- The square root on bit patterns, in any format: what each arm of `sqrt_bits` returns. Assumes nothing.
 use mathlib.Core.Path.{◌≡◌, refl, sym, ap, ap₂, ◌∙◌, subst}
 use Prim.Native.Nat.{ℕ, zero, suc, ◌+◌, ◌-◌, ◌*◌, ◌/◌, ◌%◌, ◌^◌, ◌≤◌, ◌<◌}
 use native.Mathlib.Nat.{le_trans, le_of_eq, lt_of_lt_of_le, lt_of_le_of_lt, lt_irrefl, zero-add, le-add_left, le-add_right, sub-le, one-mul, mul-one, zero-mul, mul-pos, pow-succ', div-add-mod', le-div_iff_mul-le, div-lt_iff_lt-mul, mod-eq_of_lt}
 use native.Mathlib.Omega.{arith}
 use mathlib.Core.Bool.{Bool, true, false, not, cond, true≢false, false≢true}
 use lib.Dec.{T, leb, eqb, le→leb, lit≤}
-use lib.Arith.{lt_of_le-ne}
 use lib.Pow.{pow_pos, pow_mono, shl_lt}
 use lib.Bits.{bit_and}
 use lib.Ieee.{Float, nan, inf, fin, Format, binary32, binary64, prec, emax, low, hid, ones, top, up, odd, is_nan, of_fields, of_bits, to_bits}
@@ -50,13 +49,6 @@ module _ (f : Format) (b : ℕ) where
   code-inf h s =
       let z : b ≡ ones f * hid f = sym (mod-eq_of_lt (below_top f b s)) ∙ sym (unsigned_is f b) ∙ h in
       subst (λ (k : ℕ). k ≡ rooted f k) (sym z) (inf-root f)
-
-  -- what is left once the sign is clear: above zero and finite
-  pub code-finite : (bit_and b (top f - 1) ≡ 0 → ⊥) → bit_and b (top f - 1) ≤ ones f * hid f → (bit_and b (top f - 1) ≡ ones f * hid f → ⊥)
-      → b / top f ≡ 0 → (0 < b) × (b < ones f * hid f)
-  code-finite n m i s =
-      let z : bit_and b (top f - 1) ≡ b = unsigned_is f b ∙ mod-eq_of_lt (below_top f b s) in
-      (some b (λ e. n (z ∙ e)), lt_of_le-ne (subst (λ (k : ℕ). k ≤ ones f * hid f) z m) (λ e. i (z ∙ e)))
 
 -- ---- below zero: the fields are not both 0
 minus-sqrt : (f : Format) (x : Float) (a c : ℕ) → HasValue x true a c → 0 < a → sqrt_of f x ≡ nan

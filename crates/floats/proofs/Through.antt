@@ -1,24 +1,11 @@
--- From patterns to floats and back: what is a NaN, and a function on floats that goes by the bit patterns (`by_bits`). Assumes nothing.
-use mathlib.Core.Path.{◌≡◌, sym, ap, ◌∙◌, subst}
+-- From patterns to floats and back: a function on floats that goes by the bit patterns (`by_bits`). Assumes nothing.
+use mathlib.Core.Path.{◌≡◌, ap, ◌∙◌}
 use Prim.Native.Nat.{ℕ, ◌*◌}
-use mathlib.Core.Bool.{true, false, not}
 use lib.Dec.{T}
-use lib.Ieee.{Float, nan, inf, fin, Format, up, down, ne, fits, is_nan, of_bits, to_bits}
+use lib.Ieee.{Float, nan, inf, fin, Format, up, down, fits, of_bits, to_bits}
 use lib.Ieee.Fits.{round-fits, inf-fits, nan-fits}
 use lib.Ieee.Bits.{of_bits-to_bits}
-use lib.Ieee.Compare.{differs_from_itself, nan_differs}
 use Rattle.floats.specs.Convert.{narrow_of}
-use Rattle.floats.proofs.Tests.{holds}
-
--- ---- x differs from itself, or does not
-pub is-nan : (x : Float) → ne x x ≡ true → x ≡ nan
-is-nan x h = differs_from_itself x (holds h)
-
-pub no_nan : (x : Float) → ne x x ≡ false → T (not (is_nan x))
-unfolding is_nan
-no_nan nan h = subst T (sym nan_differs ∙ h) tt
-no_nan (inf s) h = tt
-no_nan (fin s m e) h = tt
 
 -- ---- F on floats, by its pattern form: n is what that gives for the pattern of x
 pub by_bits : (f h : Format) (F : Float → Float) (x : Float) (n : ℕ) → T (fits f x) → T (fits h (F x)) → n ≡ to_bits h (F (of_bits f (to_bits f x)))

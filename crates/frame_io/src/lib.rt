@@ -28,24 +28,15 @@ fn put_input(input: &[u8], n: usize, out: &mut [u8; TEXT_ROOM]) -> usize
     block_text::put_text(&input[..n], out)
 }
 
-// Long local arrays (docs/DECISIONS.md, 'The gate').
-fn input_room() -> [u8; INPUT_ROOM] {
-    [0u8; INPUT_ROOM]
-}
-
-fn text_room() -> [u8; TEXT_ROOM] {
-    [0u8; TEXT_ROOM]
-}
-
 // Reads the input, to its end or until the buffer is full, writes its text, and answers how many bytes that has.
 pub fn put_frame<R: Read, W: Write>(from: &mut R, to: &mut W) -> io::Result<usize>
     ensures length { IfOk result (λ n. TextLength n) }
     ensures count { IfOk result (λ n. IfSome (R.remaining from.old) (λ s. n ≡ length (printed s))) }
     ensures text { OnOk result (IfSome (R.remaining from.old) (λ s. Appends (W.contents to.old) (W.contents to.new) (printed s))) }
 {
-    let mut input = input_room();
+    let mut input: [u8; INPUT_ROOM] = base::room(0);
     let n = input::read_full(from, &mut input)?;
-    let mut out = text_room();
+    let mut out: [u8; TEXT_ROOM] = base::room(0);
     let m = put_input(&input, n, &mut out);
     to.write_all(&out[..m])?;
     Ok(m)

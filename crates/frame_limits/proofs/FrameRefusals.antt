@@ -11,9 +11,12 @@ use native.Mathlib.Omega.{arith}
 use borrow.Author.Tests.{ne_eqb}
 use Rattle.cell.specs.declared.Cell.{Cell}
 use Rattle.cell.specs.Cell.{valid}
-use Rattle.base.specs.Refusals.{first_refusal}
+use Rattle.std.proofs.Common.{Ok, Err, ap}
+use Rattle.std.specs.Bool.{⊤}
+use Rattle.base.specs.declared.Refused.{Refused}
+use Rattle.base.specs.Refusals.{first_refusal, answer_of}
 use Rattle.frame_limits.specs.Limits.{lengths, counts, bounds, coordinates, validity, limit_refusals, frame_refusals, ragged, long, long_indices, bound_over, any_over, max_coordinate}
-use Rattle.base.proofs.FirstRefusal.{numbered, first-none, first-append}
+use Rattle.base.proofs.FirstRefusal.{numbered, first-none, first-append, append-refused, append-passed}
 use Rattle.base.proofs.Tests.{neither}
 
 pub limit-numbered : (c : Cell) (solutes waters : List Float) (indices : List ℕ) → numbered (limit_refusals c solutes waters indices) ≡ true
@@ -41,6 +44,20 @@ frame-chain c solutes waters =
     as_one : (r : ℕ) (b : Bool) → cond (eqb r 0) (cond b 15 0) r ≡ cond (eqb r 0 && b) 15 r
     as_one zero b = refl
     as_one (suc r) b = rw (ne_eqb (suc r) 0 (λ z. omega arith))
+
+-- what `frame_refusal` answers: what the limits refuse with, 15, or acceptance
+module _ (c : Cell) (solutes waters : List Float) where
+  pub frame-limit : (e : Refused) → Err e ≡ answer_of (first_refusal (limit_refusals c solutes waters [])) → Err e ≡ answer_of (first_refusal (frame_refusals c solutes waters))
+  unfolding frame_refusals
+  frame-limit e h = append-refused (limit_refusals c solutes waters []) (validity c ∷ []) (limit-numbered c solutes waters []) e h
+
+  pub frame-cell : {u : ⊤} (v : Bool) → v ≡ valid c → Ok u ≡ answer_of (first_refusal (limit_refusals c solutes waters [])) → first_refusal (frame_refusals c solutes waters) ≡ cond v 0 15
+  unfolding frame_refusals validity first_refusal
+  frame-cell v e h = append-passed (limit_refusals c solutes waters []) (validity c ∷ []) (limit-numbered c solutes waters []) h ∙ rw (← e) (by-validity v)
+    where
+      by-validity : (b : Bool) → let n : ℕ = cond (not b) 15 0 in n ≡ cond b 0 15
+      by-validity true = refl
+      by-validity false = refl
 
 -- what a frame has that none of 1, 2, 3 and 4 refuses
 pub record Within (c : Cell) (solutes waters : List Float) (indices : List ℕ) : Type 0 where

@@ -4,9 +4,9 @@
 
 ghost use Rattle.std.specs.Prelude.{◌≡◌};
 ghost use Rattle.frame_limits.specs.Limits.{exceeds as exceeds_of, beyond as beyond_of, any, any_over, ragged as ragged_of, long as long_of, bound_over, limit_refusals, frame_refusals, max_coordinate};
-ghost use Rattle.base.specs.Refusals.{first_refusal};
+ghost use Rattle.base.specs.Refusals.{first_refusal, answer_of};
 
-use base::{MAX_ATOMS, MAX_INDICES};
+use base::{MAX_ATOMS, MAX_INDICES, Refused};
 use cell::Cell;
 
 const MAX_BOUND: f32 = 65536.0;
@@ -26,11 +26,8 @@ fn beyond(xs: &[f32]) -> bool
     ensures { result ≡ any (beyond_of max_coordinate) xs.now }
 {
     let mut any = false;
-    let mut i = 0;
-    while i < xs.len() {
-        let x = xs[i];
+    for &x in xs {
         any = any | ((MAX_COORDINATE < x) | (x < -MAX_COORDINATE));
-        i += 1;
     }
     any
 }
@@ -39,13 +36,11 @@ fn beyond(xs: &[f32]) -> bool
 fn finite_over(xs: &[f32]) -> bool
     ensures { result ≡ any_over max_coordinate xs.now }
 {
-    let mut any = false;
-    let mut i = 0;
-    while i < xs.len() {
-        any = any | exceeds(MAX_COORDINATE, xs[i]);
-        i += 1;
+    let mut over = false;
+    for &x in xs {
+        over = over | exceeds(MAX_COORDINATE, x);
     }
-    any
+    over
 }
 
 // Whether a coordinate of the list is over its limit (4), one at a time: also in a point that is not finite. Most lists have none beyond it, which
@@ -84,33 +79,37 @@ pub fn long(xs: &[f32]) -> bool
     xs.len() > MAX_ATOMS * 3
 }
 
-// The first of 1, 2, 3 and 4 that holds, or 0.
-pub fn limit_refusal(cell: Cell, solutes: &[f32], waters: &[f32], indices: &[u32]) -> u32
-    ensures { result ≡ first_refusal (limit_refusals cell solutes.now waters.now indices.now) }
+// The first of 1, 2, 3 and 4 that holds.
+pub fn limit_refusal(
+    cell: Cell,
+    solutes: &[f32],
+    waters: &[f32],
+    indices: &[u32],
+) -> Result<(), Refused>
+    ensures { result ≡ answer_of (first_refusal (limit_refusals cell solutes.now waters.now indices.now)) }
 {
     if ragged(solutes) | ragged(waters) {
-        return 1;
+        return Err(Refused::Ragged);
     }
     if long(solutes) | (long(waters) | (indices.len() > MAX_INDICES)) {
-        return 2;
+        return Err(Refused::Long);
     }
     if bound_over(cell) {
-        return 3;
+        return Err(Refused::Bound);
     }
     if coordinate_over(solutes) | coordinate_over(waters) {
-        return 4;
+        return Err(Refused::Coordinate);
     }
-    0
+    Ok(())
 }
 
-// The first of 1, 2, 3, 4 and 15 that holds, or 0: what every call on a cell and its coordinates tests before all else.
-pub fn frame_refusal(cell: Cell, solutes: &[f32], waters: &[f32]) -> u32
-    ensures { result ≡ first_refusal (frame_refusals cell solutes.now waters.now) }
+// The first of 1, 2, 3, 4 and 15 that holds: what every call on a cell and its coordinates tests before all else.
+pub fn frame_refusal(cell: Cell, solutes: &[f32], waters: &[f32]) -> Result<(), Refused>
+    ensures { result ≡ answer_of (first_refusal (frame_refusals cell solutes.now waters.now)) }
 {
-    let none = [0u32; 0];
-    let refusal = limit_refusal(cell, solutes, waters, &none);
-    if (refusal == 0) & !cell::is_valid(cell) {
-        return 15;
+    limit_refusal(cell, solutes, waters, &[])?;
+    if !cell::is_valid(cell) {
+        return Err(Refused::Cell);
     }
-    refusal
+    Ok(())
 }

@@ -3,10 +3,10 @@
 #![tactic(auto)]
 
 ghost use Rattle.std.specs.Prelude.{◌≡◌};
-ghost use Rattle.base.specs.Refusals.{first_refusal};
+ghost use Rattle.base.specs.Refusals.{first_refusal, answer_of};
 ghost use Rattle.frame_tests.specs.Tests.{is_blank, size_refusals};
 
-use base::{MAX_COPIES, MAX_PICKS};
+use base::{MAX_COPIES, MAX_PICKS, Refused};
 use cell::Cell;
 use cluster_table::HEADER;
 
@@ -18,7 +18,7 @@ pub fn is_blank(cell: Cell, solutes: &[f32], waters: &[f32], copies: usize, fini
         | ((solutes.len() == 0) | ((waters.len() == 0) | ((copies == 0) | (finite == 0))))
 }
 
-// The first of 5, 6, 16, 7 that holds, or 0: for so many copies, picks and finite waters, a cutoff, and tables of these lengths.
+// The first of 5, 6, 16, 7 that holds: for so many copies, picks and finite waters, a cutoff, and tables of these lengths.
 pub fn size_refusal(
     copies: usize,
     picked: usize,
@@ -29,23 +29,23 @@ pub fn size_refusal(
     clusters: usize,
     center_order: usize,
     water_order: usize,
-) -> u32
-    ensures { result ≡ first_refusal (size_refusals copies picked finite cutoff starts picks clusters center_order water_order) }
+) -> Result<(), Refused>
+    ensures { result ≡ answer_of (first_refusal (size_refusals copies picked finite cutoff starts picks clusters center_order water_order)) }
 {
     if copies > MAX_COPIES {
-        return 5;
+        return Err(Refused::Copies);
     }
     if picked > MAX_PICKS {
-        return 6;
+        return Err(Refused::Picks);
     }
     let reaches = cell::sound_reach(cutoff);
     let short = ((starts < copies + 1) | (picks < picked))
         | ((clusters < HEADER + 3 * copies) | ((center_order < copies) | (water_order < finite)));
     if !reaches {
-        return 16;
+        return Err(Refused::Reach);
     }
     if short {
-        return 7;
+        return Err(Refused::Short);
     }
-    0
+    Ok(())
 }

@@ -7,12 +7,13 @@ use Prim.Native.Nat.{ℕ, ◌*◌, ◌+◌}
 use lib.ListN.{length, replicate}
 use lib.Ieee.{Float}
 use borrow.Author.Tests.{le-ltb}
+use Rattle.std.proofs.Common.{Result, Ok, Option, Some}
+use Rattle.base.specs.declared.Refused.{Refused}
 use Rattle.base.specs.Limits.{max_copies}
 use Rattle.floats.specs.Constants.{zero32}
 use Rattle.cluster_table.specs.Table.{words}
 use Rattle.listing.specs.Listing.{leaves_missing}
-use Rattle.mixing.specs.declared.FrameAnswer.{FrameAnswer}
-use Rattle.mixing.specs.declared.FrameAnswer.TheVariants.{Mixed}
+use Rattle.mixing.specs.declared.Mixture.{Mixture}
 use Rattle.mixing.specs.Frame.{Frame, FrameTables, frame_tables, frame_answer, frame_after}
 use Rattle.mixing.proofs.Answered.{listed-leaves}
 use Rattle.frame_text.specs.Texts.{program_tables, answer_text, frame_text}
@@ -26,11 +27,9 @@ unfolding program_tables
 lent-zeros s p k c w r b l = rw (s, p, k, c, w, r, b, l)
 
 module _ (f : Frame) (t : FrameTables) where
-  pub answer-text : (r : FrameAnswer) (leaves : List ℕ) → r ≡ frame_answer f t → leaves ≡ (frame_after f t).leaves → answer_text r leaves ≡ frame_text f t
+  pub answer-text : (r : Result (Option Mixture) Refused) (leaves : List ℕ) → r ≡ frame_answer f t → leaves ≡ (frame_after f t).leaves → answer_text r leaves ≡ frame_text f t
   unfolding frame_text
   answer-text r leaves e h = rw (e, h)
 
-  pub none-missing : {copies picks : ℕ} {largest contacted pair dispersion : Float} {nodes depth count dry : ℕ}
-      → Mixed copies picks largest contacted pair dispersion nodes depth count dry ≡ frame_answer f t
-      → (leaves : List ℕ) → length leaves ≡ length t.leaves → leaves_missing leaves count ≡ false
-  none-missing {count = count} e leaves h = le-ltb (length leaves) (count * 8) (rw h (listed-leaves f t e))
+  pub none-missing : (m : Mixture) → Ok (Some m) ≡ frame_answer f t → (leaves : List ℕ) → length leaves ≡ length t.leaves → leaves_missing leaves m.report.leaves ≡ false
+  none-missing m e leaves h = le-ltb (length leaves) (m.report.leaves * 8) (rw h (listed-leaves f t m e))

@@ -1,12 +1,13 @@
 -- docs/RULES.md, program `frame`: what it prints for a frame that was read, `refused` and the number, or `blank`, or the listing.
 -- Definitions only. Assumes nothing.
-use Rattle.std.specs.Prelude.{ℕ, ◌+◌, List, replicate}
+use Rattle.std.specs.Prelude.{ℕ, ◌+◌, List, replicate, Result, Ok, Err, Option, Some, None}
+use Rattle.base.specs.declared.Refused.{Refused}
+use Rattle.base.specs.Refusals.{refusal_number}
 use Rattle.base.specs.Limits.{max_copies}
 use Rattle.floats.specs.Constants.{zero32}
 use Rattle.cluster_table.specs.Table.{words}
 use Rattle.listing.specs.Listing.{refused_text, blank_text, listing_text}
-use Rattle.mixing.specs.declared.FrameAnswer.{FrameAnswer}
-use Rattle.mixing.specs.declared.FrameAnswer.TheVariants.{Refused, Blank, Mixed}
+use Rattle.mixing.specs.declared.Mixture.{Mixture}
 use Rattle.mixing.specs.Frame.{Frame, FrameTables, frame_tables, frame_answer, frame_after}
 
 -- what the program lends, all zeros: 16,384 picks, 2,048 records in each node table, and elsewhere all that a block of 60,000 bytes
@@ -17,11 +18,10 @@ program_tables =
     (replicate 16384 0) (replicate 12288 zero32) (replicate 16384 0)
 
 -- the text of each case of the whole frame's answer, with the leaf table that it left
-abbrev pub answer_text : FrameAnswer → List ℕ → List ℕ
-answer_text (Refused n) leaves = refused_text n
-answer_text Blank leaves = blank_text
-answer_text (Mixed copies picks largest contacted pair dispersion nodes depth count dry) leaves =
-    listing_text copies largest contacted pair dispersion nodes depth leaves count dry
+abbrev pub answer_text : Result (Option Mixture) Refused → List ℕ → List ℕ
+answer_text (Ok (Some m)) leaves = listing_text m leaves
+answer_text (Ok None) leaves = blank_text
+answer_text (Err e) leaves = refused_text (refusal_number e)
 
 unfoldable pub frame_text : Frame → FrameTables → List ℕ
 frame_text f t = answer_text (frame_answer f t) (frame_after f t).leaves

@@ -1,7 +1,7 @@
 -- The tests of one axis, by a gate, by images and by the gates of many turns, reject alike: what passes one of them between lo and hi is apart.
 -- Assumes nothing.
 use mathlib.Core.Path.{◌≡◌}
-use mathlib.Core.Bool.{Bool, true, false}
+use mathlib.Core.Bool.{Bool, true}
 use Prim.Native.Nat.{◌^◌, ◌≤◌}
 use native.Mathlib.Omega.{arith}
 use lib.Bits.{and_le_r}
@@ -13,7 +13,7 @@ use Rattle.floats.proofs.Bounds.{Within}
 use Rattle.floats.proofs.Quotients.{within-finite}
 use Rattle.cell.specs.Reach.{sound_reach}
 use Rattle.gates.specs.declared.AxisTurns.{AxisTurns}
-use Rattle.gates.specs.Inner.{gate_at, ends_at, gate_start, far_of, far_images, rejects_of, guess_of, far_turns, SureAxis}
+use Rattle.gates.specs.Inner.{gate_at, ends_at, gate_start, far_of, far_images, guess_of, far_turns, SureAxis}
 use Rattle.gates.proofs.Axes.{Axis}
 use Rattle.gates.proofs.Squares.{cutoff-finite}
 use Rattle.gates.proofs.Sure.{Apart, certified-sure, gate-sure}
@@ -32,13 +32,8 @@ module _ (k e : Float) (K : sound_reach k ≡ true) (E : Axis e) where
   pub gate-rejects : Rejects k e (far_of (gate_at k 0 e))
   gate-rejects lo d hi wl w wh = far-sound k (gate_at k 0 e) e lo d hi (gate-sure k 0 e K (omega arith) E) (within-finite (2 ^ 21) lo wl) (within-finite (2 ^ 21) hi wh) w
 
-  images-rejects : Rejects k e (far_images k e)
+  pub images-rejects : Rejects k e (far_images k e)
   images-rejects lo d hi wl w wh hl hh = images-sound k lo hi e d (cutoff-finite k K) E wl wh w hl hh
-
-  pub screen-rejects : (wide : Bool) → Rejects k e (rejects_of wide k e (gate_at k 0 e))
-  unfolding rejects_of
-  screen-rejects true = images-rejects
-  screen-rejects false = gate-rejects
 
   pub turns-rejects : (s : AxisTurns) → SureAxis k e s → Rejects k e (far_turns s)
   unfolding far_turns

@@ -14,10 +14,9 @@ use Rattle.cell.specs.declared.Cell.{Cell}
 use Rattle.cell.specs.declared.Vec3.{Vec3}
 use Rattle.touch.specs.Touch.{cutoff2}
 use Rattle.gates.specs.declared.Gate.{Gate}
-use Rattle.gates.specs.declared.Gates.{Gates}
-use Rattle.gates.specs.declared.Screen.{Screen}
+use Rattle.gates.specs.declared.PerAxis.{PerAxis}
+use Rattle.gates.specs.declared.AxisImages.{AxisImages}
 use Rattle.gates.specs.declared.AxisTurns.{AxisTurns}
-use Rattle.gates.specs.declared.TurnGates.{TurnGates}
 
 -- ---- the gate of an axis of extent e, at the cutoff k
 -- where it starts: k + 0.05, a little above the cutoff
@@ -65,7 +64,7 @@ unfolding gate_start certified ends_at
 gate_at k t e = cond (certified k t e) (ends_at (gate_start k) t e) (record { r = one32; u = zero32 })
 
 -- the gates of separations below an extent
-unfoldable pub gates_of : Float → Vec3 → Gates
+unfoldable pub gates_of : Float → Vec3 → PerAxis Gate
 unfolding gate_at
 gates_of k e = record { x = gate_at k 0 e.x; y = gate_at k 0 e.y; z = gate_at k 0 e.z }
 
@@ -87,12 +86,11 @@ unfoldable pub far_images : Float → Float → Float → Float → Bool
 unfolding clear_right clear_left far_ends
 far_images k e lo hi = cond (eq lo hi) (clear_right k lo e || clear_left k lo e) (far_ends k e lo hi)
 
--- by the gate, or by the images
-unfoldable pub rejects_of : Bool → Float → Float → Gate → Float → Float → Bool
-rejects_of wide k e g lo hi = cond wide (far_images k e lo hi) (far_of g lo hi)
+abbrev pub by_images : AxisImages → Float → Float → Bool
+by_images s = far_images s.cutoff s.e
 
-unfoldable pub screen_of : Bool → Float → Vec3 → Screen
-screen_of wide k e = record { wide = wide; cutoff = k; e = e; g = gates_of k e }
+abbrev pub images_of : Float → Vec3 → PerAxis AxisImages
+images_of k e = record { x = record { cutoff = k; e = e.x }; y = record { cutoff = k; e = e.y }; z = record { cutoff = k; e = e.z } }
 
 -- ---- what the gates of many turns reject
 -- a guess of how many extents a separation a takes off, below 2 ^ 15: any number would do
@@ -110,7 +108,7 @@ far_turns s lo hi =
 abbrev pub SureAxis : Float → Float → AxisTurns → Type 0
 SureAxis k e s = (s.e ≡ e) × (s.start ≡ gate_start k) × ((t : ℕ) → t < s.top → certified k t e ≡ true)
 
-abbrev pub SureTurns : Float → Vec3 → TurnGates → Type 0
+abbrev pub SureTurns : Float → Vec3 → PerAxis AxisTurns → Type 0
 SureTurns k e s = SureAxis k e.x s.x × SureAxis k e.y s.y × SureAxis k e.z s.z
 
 -- ---- what the tests 3, 4, 15 and 16 leave of a cell, a cutoff and coordinates

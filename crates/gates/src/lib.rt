@@ -4,9 +4,9 @@
 // little past t extents to a little before the next. Lengths are in angstrom.
 #![tactic(auto)]
 
-ghost use Rattle.std.specs.Prelude.{◌≡◌, true, ◌||◌, ℕ, ◌+◌, ◌<◌, ◌≤◌};
+ghost use Rattle.std.specs.Prelude.{◌≡◌, Bool, true, ◌||◌, ℕ, ◌+◌, ◌<◌, ◌≤◌, Float};
 ghost use Rattle.cell.specs.Cell.{extent_of};
-ghost use Rattle.gates.specs.Inner.{turns_of, clear_right, clear_left, holds_at, short as short_of, ends_at, certified as certified_of, gate_at, gates_of, far_of, far_ends, rejects_of, screen_of, guess_of, far_turns, SureAxis, SureTurns};
+ghost use Rattle.gates.specs.Inner.{turns_of, clear_right, clear_left, holds_at, short as short_of, ends_at, certified as certified_of, gate_at, gates_of, far_of, far_ends, by_images, images_of, guess_of, far_turns, SureAxis, SureTurns};
 
 use cell::{Cell, Vec3};
 use numbers::order::larger;
@@ -18,11 +18,21 @@ pub struct Gate {
     pub u: f32,
 }
 
+// What each axis has of its own.
 #[derive(Clone, Copy)]
-pub struct Gates {
-    pub x: Gate,
-    pub y: Gate,
-    pub z: Gate,
+pub struct PerAxis<T> {
+    pub x: T,
+    pub y: T,
+    pub z: T,
+}
+
+// A test of an axis: by a gate, by images, or by the gates of many turns.
+pub trait AxisTest: Copy {
+    ghost rejects: { Self → Float → Float → Bool };
+
+    // Whether every separation from lo to hi is rejected.
+    fn far(self, lo: f32, hi: f32) -> bool
+        ensures { result ≡ rejects self lo hi };
 }
 
 // ---- the gate of an axis at a turn
@@ -101,11 +111,11 @@ fn gate_of(cutoff: f32, e: f32) -> Gate
     Gate { r: 1.0, u: 0.0 }
 }
 
-pub fn gates_of(cell: Cell, cutoff: f32) -> Gates
+pub fn gates_of(cell: Cell, cutoff: f32) -> PerAxis<Gate>
     ensures { result ≡ gates_of cutoff (extent_of cell) }
 {
     let e = cell::extent(cell);
-    Gates {
+    PerAxis {
         x: gate_of(cutoff, e.x),
         y: gate_of(cutoff, e.y),
         z: gate_of(cutoff, e.z),
@@ -114,11 +124,13 @@ pub fn gates_of(cell: Cell, cutoff: f32) -> Gates
 
 // ---- the test by a gate
 
-// Whether the gate rejects every separation from lo to hi. No branch turns on a sign.
-pub fn far(g: Gate, lo: f32, hi: f32) -> bool
-    ensures { result ≡ far_of g lo hi }
-{
-    (g.r <= larger(lo, -hi)) & (larger(hi, -lo) <= g.u)
+impl AxisTest for Gate {
+    ghost rejects = { far_of };
+
+    // No branch turns on a sign.
+    fn far(self, lo: f32, hi: f32) -> bool {
+        (self.r <= larger(lo, -hi)) & (larger(hi, -lo) <= self.u)
+    }
 }
 
 // ---- the test by images, at any turn
@@ -142,53 +154,33 @@ fn far_ends(cutoff: f32, e: f32, lo: f32, hi: f32) -> bool
     holds(cutoff, k, k + 1.0, lo, hi, e)
 }
 
-// How the copies of a row are told apart: by the gates, or, where some stand over an extent away, by images.
+// An axis of extent e, for separations of any number of extents.
 #[derive(Clone, Copy)]
-pub struct Screen {
-    pub wide: bool,
+pub struct AxisImages {
     pub cutoff: f32,
-    pub e: Vec3,
-    pub g: Gates,
+    pub e: f32,
 }
 
-// The screen of a cell at the cutoff.
-pub fn screen_of(cell: Cell, cutoff: f32, wide: bool) -> Screen
-    ensures { result ≡ screen_of wide cutoff (extent_of cell) }
-{
-    Screen {
-        wide: wide,
-        cutoff: cutoff,
-        e: cell::extent(cell),
-        g: gates_of(cell, cutoff),
-    }
-}
+impl AxisTest for AxisImages {
+    ghost rejects = { by_images };
 
-// The same screen, by images where `wide` holds.
-pub fn widened(s: Screen, wide: bool) -> Screen
-    ensures { result ≡ record { wide = wide; cutoff = s.cutoff; e = s.e; g = s.g } }
-{
-    let g = s.g;
-    let e = s.e;
-    Screen {
-        wide: wide,
-        cutoff: s.cutoff,
-        e: e,
-        g: g,
-    }
-}
-
-// Whether an axis of extent e, with the gate g, rejects every separation from lo to hi.
-pub fn rejects(wide: bool, cutoff: f32, e: f32, g: Gate, lo: f32, hi: f32) -> bool
-    ensures { result ≡ rejects_of wide cutoff e g lo hi }
-{
-    if wide {
+    fn far(self, lo: f32, hi: f32) -> bool {
         // As of two single picks: one division is enough.
         if lo == hi {
-            return clear(cutoff, lo, e);
+            return clear(self.cutoff, lo, self.e);
         }
-        return far_ends(cutoff, e, lo, hi);
+        far_ends(self.cutoff, self.e, lo, hi)
     }
-    far(g, lo, hi)
+}
+
+pub fn images_of(e: Vec3, cutoff: f32) -> PerAxis<AxisImages>
+    ensures { result ≡ images_of cutoff e }
+{
+    PerAxis {
+        x: AxisImages { cutoff, e: e.x },
+        y: AxisImages { cutoff, e: e.y },
+        z: AxisImages { cutoff, e: e.z },
+    }
 }
 
 // ---- the test by the gates of many turns, for loops without a branch
@@ -202,38 +194,38 @@ pub struct AxisTurns {
     pub top: u32,
 }
 
-#[derive(Clone, Copy)]
-pub struct TurnGates {
-    pub x: AxisTurns,
-    pub y: AxisTurns,
-    pub z: AxisTurns,
+// How many turns of an axis, one after the other, have gates that hold: `most` at most.
+fn sure_turns(cutoff: f32, e: f32, most: u32) -> u32
+    requires { most ≤ 32768 }
+    ensures { (t : ℕ) → t < result → certified_of cutoff t e ≡ true }
+{
+    for t in 0..most {
+        if !certified(cutoff, t, e) {
+            return t;
+        }
+    }
+    most
 }
 
-// The turns of an axis, one after the other as long as their gates hold, `most` of them at most.
+// The turns of an axis, `most` of them at most.
+#[tactic(auto, unfolding(crate::specs::Inner::gate_start))]
 fn axis_turns(cutoff: f32, e: f32, most: u32) -> AxisTurns
     requires { most ≤ 32768 }
     ensures { SureAxis cutoff e result }
 {
-    let mut top = 0;
-    while top < most {
-        if !certified(cutoff, top, e) {
-            break;
-        }
-        top += 1;
-    }
     AxisTurns {
-        e: e,
+        e,
         inverse: 1.0 / e,
         start: cutoff + MARGIN,
-        top: top,
+        top: sure_turns(cutoff, e, most),
     }
 }
 
-pub fn turns_of(e: Vec3, cutoff: f32, most: u32) -> TurnGates
+pub fn turns_of(e: Vec3, cutoff: f32, most: u32) -> PerAxis<AxisTurns>
     requires { most ≤ 32768 }
     ensures { SureTurns cutoff e result }
 {
-    TurnGates {
+    PerAxis {
         x: axis_turns(cutoff, e.x, most),
         y: axis_turns(cutoff, e.y, most),
         z: axis_turns(cutoff, e.z, most),
@@ -245,13 +237,15 @@ pub fn turns_of(e: Vec3, cutoff: f32, most: u32) -> TurnGates
 fn guess(inverse: f32, a: f32) -> u32
     ensures { result ≡ guess_of inverse a }
 {
-    numbers::class::to_bits32(a * inverse - 0.5 + 12582912.0) & 32767
+    numbers::class::to_bits(a * inverse - 0.5 + 12582912.0) & 32767
 }
 
-// Whether one of the gates rejects every separation from lo to hi.
-pub fn far_turns(s: AxisTurns, lo: f32, hi: f32) -> bool
-    ensures { result ≡ far_turns s lo hi }
-{
-    let t = guess(s.inverse, larger(lo, -hi));
-    (t < s.top) & far(ends_at(s.start, t, s.e), lo, hi)
+// One of the gates rejects.
+impl AxisTest for AxisTurns {
+    ghost rejects = { far_turns };
+
+    fn far(self, lo: f32, hi: f32) -> bool {
+        let t = guess(self.inverse, larger(lo, -hi));
+        (t < self.top) & ends_at(self.start, t, self.e).far(lo, hi)
+    }
 }

@@ -1,7 +1,3 @@
--- Occupancies: what one is where water is seen.
-pub mod Occupancies
--- Whether a water is in a leaf's shell, an axis at a time.
-pub mod ShellAxes
 -- The waters in a leaf's shell, counted one after the other.
 pub mod ShellCount
 -- What is expected in a box, and in the box with its shell, is finite.

@@ -1,9 +1,9 @@
 // The numbers of a leaf (docs/RULES.md, 'Leaf report'): shell, density, occupancy and partition score; the Rust's
 // `water_count_in_expanded_bounds`, the ratio of `occupancy_count_score`, `reference_octree_leaf_volume` and `partition_size_score`. Every
 // f32 operation rounds once, left to right. Lengths are in angstrom.
-#![tactic(auto)]
+#![tactic(auto, unfolding(crate::specs::Leaf::half_side, crate::specs::Leaf::in_shell, crate::specs::Leaf::expanded, crate::specs::Leaf::room_volume, crate::specs::Leaf::density_of, crate::specs::Leaf::occupancy_of, crate::specs::Leaf::reference_leaves, crate::specs::Leaf::reference_volume, crate::specs::Leaf::partition_score, dispersion::specs::Dispersion::clamped, cell::specs::Cell::min_image, cell::specs::Cell::minus))]
 
-ghost use Rattle.std.specs.Prelude.{◌≡◌, true, cond, ◌*◌, ◌≤◌, length};
+ghost use Rattle.std.specs.Prelude.{◌≡◌, ◌*◌, ◌≤◌, length, IfSome};
 ghost use Rattle.std.specs.Float.{binary32};
 ghost use Rattle.std.specs.Float.Ieee.{sub};
 ghost use Rattle.base.specs.Limits.{max_atoms};
@@ -11,10 +11,10 @@ ghost use Rattle.cell.specs.Cell.{image_axis};
 ghost use Rattle.leaf.specs.Leaf.{half_side, within_half, in_shell, shell_from, expanded as expanded_of, room_volume, density_of, occupancy_of, occupancy_word, reference_leaves, reference_volume, partition_score};
 
 use bounds::OctreeBounds;
-use cell::{Cell, EPSILON, Vec3};
+use cell::{Cell, Vec3};
 use numbers::order::{larger, smaller};
 
-// How wet a box is: dry (no water seen), or observed waters over expected ones.
+// How wet a box is: dry (no water seen), or observed waters over expected ones. Not an Option: document 01 names this form.
 #[derive(Clone, Copy)]
 pub enum Occupancy {
     Dry,
@@ -37,6 +37,7 @@ fn half_side(side: f32, whole: f32) -> f32
 }
 
 // Whether |d| is at most h, by one comparison: of the two that -h <= d <= h takes, each would be a branch guessed wrong often.
+#[tactic(auto, using(floats::proofs::Magnitudes::between), unfolding(floats::specs::Order::larger, crate::specs::Leaf::within_half))]
 fn within(d: f32, h: f32) -> bool
     ensures { result ≡ within_half d h }
 {
@@ -65,79 +66,46 @@ fn in_shell(cell: Cell, b: OctreeBounds, w: Vec3) -> bool
     axis_in_shell(b.center.z, w.z, b.extent.z, e.z)
 }
 
-// Whether a water is in a shell, found without a division, and whether that is sure.
-#[derive(Clone, Copy)]
-struct Seen {
-    sure: bool,
-    inside: bool,
-}
-
-// The same for a water that is less than an extent from the box center on all axes, without a division or a branch.
-fn fold_in_shell(cell: Cell, b: OctreeBounds, w: Vec3) -> Seen
-    ensures { result.sure ≡ true → result.inside ≡ in_shell cell b w }
+// The same, if the water is sure to be less than an extent from the box center on all axes: without a division, and without a branch on an
+// axis that it is outside on.
+fn fold_in_shell(cell: Cell, b: OctreeBounds, w: Vec3) -> Option<bool>
+    ensures { IfSome result (λ inside. inside ≡ in_shell cell b w) }
 {
     let e = cell::extent(cell);
     let d = cell::separation(b.center, w);
-    let x = cell::fold_axis(d.x, e.x);
-    let y = cell::fold_axis(d.y, e.y);
-    let z = cell::fold_axis(d.z, e.z);
-    let on_x = within(x.value, half_side(b.extent.x, e.x));
-    let on_y = within(y.value, half_side(b.extent.y, e.y));
-    let on_z = within(z.value, half_side(b.extent.z, e.z));
-    Seen {
-        sure: x.sure & (y.sure & z.sure),
-        inside: on_x & (on_y & on_z),
-    }
+    let x = cell::fold_axis(d.x, e.x)?;
+    let y = cell::fold_axis(d.y, e.y)?;
+    let z = cell::fold_axis(d.z, e.z)?;
+    let on_x = within(x, half_side(b.extent.x, e.x));
+    let on_y = within(y, half_side(b.extent.y, e.y));
+    let on_z = within(z, half_side(b.extent.z, e.z));
+    Some(on_x & (on_y & on_z))
 }
 
-// How many waters are in a shell, found without a division, and whether that is sure.
-#[derive(Clone, Copy)]
-struct Counted {
-    sure: bool,
-    waters: u32,
-}
-
-// 1 where t holds, else 0.
-fn bit(t: bool) -> u32
-    ensures is { result ≡ cond t 1 0 }
-    ensures small { result ≤ 1 }
+// Counts the waters in the shell of a box, if all are sure, with no division, and no branch on whether a water is inside, which would be
+// guessed wrong often.
+#[tactic(auto, using(crate::proofs::ShellCount::shell_more, crate::proofs::ShellCount::shell_none, crate::proofs::ShellCount::bool_few))]
+fn count_folded(cell: Cell, b: OctreeBounds, waters: &[f32], m: usize) -> Option<usize>
+    requires { m * 3 ≤ length waters.now }
+    ensures { IfSome result (λ n. (n ≡ shell_from cell b waters.now m 0) × (n ≤ m)) }
 {
-    if t { 1 } else { 0 }
-}
-
-// Counts the waters in the shell of a box with no division and no branch, so that the compiler makes code of it for several at once.
-fn count_folded(cell: Cell, b: OctreeBounds, waters: &[f32], m: usize) -> Counted
-    requires { (m * 3 ≤ length waters.now) × (m ≤ max_atoms) }
-    ensures { result.sure ≡ true → (result.waters ≡ shell_from cell b waters.now m 0) × (result.waters ≤ m) }
-{
-    let mut sure = true;
-    let mut n = 0u32;
-    let mut i = 0;
-    while i < m {
-        let seen = fold_in_shell(cell, b, cell::point(waters, i));
-        sure = sure & seen.sure;
-        n = n + bit(seen.inside);
-        i += 1;
+    let mut n = 0;
+    for i in 0..m {
+        n += usize::from(fold_in_shell(cell, b, cell::point(waters, i))?);
     }
-    Counted {
-        sure: sure,
-        waters: n,
-    }
+    Some(n)
 }
 
 // The same, a water at a time.
+#[tactic(auto, using(crate::proofs::ShellCount::shell_more, crate::proofs::ShellCount::shell_none, crate::proofs::ShellCount::bool_few))]
 fn count_each(cell: Cell, b: OctreeBounds, waters: &[f32], m: usize) -> usize
     requires { m * 3 ≤ length waters.now }
     ensures is { result ≡ shell_from cell b waters.now m 0 }
     ensures small { result ≤ m }
 {
     let mut n = 0;
-    let mut i = 0;
-    while i < m {
-        if in_shell(cell, b, cell::point(waters, i)) {
-            n += 1;
-        }
-        i += 1;
+    for i in 0..m {
+        n += usize::from(in_shell(cell, b, cell::point(waters, i)));
     }
     n
 }
@@ -149,11 +117,10 @@ pub fn shell_waters(cell: Cell, b: OctreeBounds, waters: &[f32], m: usize) -> us
     ensures is { result ≡ shell_from cell b waters.now m 0 }
     ensures small { result ≤ m }
 {
-    let counted = count_folded(cell, b, waters, m);
-    if counted.sure {
-        return counted.waters as usize;
+    match count_folded(cell, b, waters, m) {
+        Some(n) => n,
+        None => count_each(cell, b, waters, m),
     }
-    count_each(cell, b, waters, m)
 }
 
 // The sides of a box with its shell.
@@ -174,7 +141,7 @@ pub fn expanded(cell: Cell, b: OctreeBounds) -> Vec3
 fn room_volume(cell: Cell) -> f32
     ensures { result ≡ room_volume cell }
 {
-    larger(cell::volume(cell::extent(cell)), EPSILON)
+    larger(cell::volume(cell::extent(cell)), f32::EPSILON)
 }
 
 // Waters in a cubic angstrom of the cell.
@@ -202,7 +169,7 @@ pub fn occupancy_word(o: Occupancy) -> u32
 {
     match o {
         Occupancy::Dry => 0,
-        Occupancy::Ratio(r) => numbers::class::to_bits32(r),
+        Occupancy::Ratio(r) => numbers::class::to_bits(r),
     }
 }
 
@@ -213,19 +180,13 @@ fn reference_leaves(copies: usize) -> usize
     ensures is { result ≡ reference_leaves copies }
     ensures small { result ≤ 4096 }
 {
-    if copies <= 1 {
-        return 1;
+    match copies {
+        0..=1 => 1,
+        2..=8 => 8,
+        9..=64 => 64,
+        65..=512 => 512,
+        _ => 4096,
     }
-    if copies <= 8 {
-        return 8;
-    }
-    if copies <= 64 {
-        return 64;
-    }
-    if copies <= 512 {
-        return 512;
-    }
-    4096
 }
 
 // The volume that a leaf would have if the copies were spread evenly.
@@ -240,10 +201,10 @@ pub fn partition_score(leaf_volume: f32, reference: f32, centers: usize) -> f32
     requires { centers ≤ max_atoms }
     ensures { result ≡ partition_score leaf_volume reference centers }
 {
-    if reference <= EPSILON {
+    if reference <= f32::EPSILON {
         return 0.0;
     }
-    let size = roots::sqrt32(leaf_volume / reference);
-    let share = roots::sqrt32(1.0 / centers as f32);
-    dispersion::clamp(size) * share
+    let size = roots::sqrt(leaf_volume / reference);
+    let share = roots::sqrt(1.0 / centers as f32);
+    size.clamp(0.0, 1.0) * share
 }

@@ -55,7 +55,6 @@ module _ (c : Cell) (density reference : Float) (ws : List Float) (m : ℕ) wher
 
 -- of the nodes before i, `reported` are reported, `dry` of them dry, and their leaves stand at the start of the table L₀, now L
 pub record Reporting (c : Cell) (density reference : Float) (ws : List Float) (m : ℕ) (R : List ℕ) (X : List Float) (n : ℕ) (L₀ : List ℕ) (i reported dry : ℕ) (L : List ℕ) : Type 0 where
-  pub within : i ≤ n
   pub few : reported ≤ i
   pub fewer : dry ≤ reported
   pub leaves : reported + reported_leaves (nodes_from R X (n - i) i) ≡ reported_leaves (nodes_from R X n 0)
@@ -70,17 +69,12 @@ module _ {c : Cell} {density reference : Float} {ws : List Float} {m : ℕ} {R :
       let few = reported-few (nodes_from R X n 0) in
       let all = nodes-length R X n 0 in
       record {
-        within = omega arith;
         few = omega arith;
         fewer = omega arith;
         leaves = rw (sub-zero, zero-add);
         dries = rw (sub-zero, zero-add);
         filling = rw sub-zero (filling-first (omega arith));
       }
-
-  -- there is room for one more
-  pub reporting-room : {i reported dry : ℕ} {L : List ℕ} → i < n → Reporting c density reference ws m R X n L₀ i reported dry L → n * 8 ≤ length L₀ → reported * 8 + 8 ≤ length L
-  reporting-room {i} {reported} h z room = omega (arith, z.few, z.filling.same)
 
   pub reporting-leaf :
       {i reported dry : ℕ} {L : List ℕ} → i < n → is_reported (node_at R X i) ≡ true → Reporting c density reference ws m R X n L₀ i reported dry L →
@@ -98,7 +92,6 @@ module _ {c : Cell} {density reference : Float} {ws : List Float} {m : ℕ} {R :
       rw (next R X n i h, t) at z.filling in
       let at : (reported + 1) * 8 ≡ reported * 8 + 8 = omega arith in
       record {
-        within = omega arith;
         few = omega (arith, z.few);
         fewer = omega (arith, z.fewer);
         leaves = omega arith;
@@ -115,7 +108,6 @@ module _ {c : Cell} {density reference : Float} {ws : List Float} {m : ℕ} {R :
       let leaves : reported + (0 + reported_leaves rest) ≡ reported_leaves (nodes_from R X n 0) = rw (next R X n i h, t) at z.leaves in
       let dries : dry + (0 + dry_leaves rest) ≡ dry_leaves (nodes_from R X n 0) = rw (next R X n i h, t) at z.dries in
       record {
-        within = omega arith;
         few = omega (arith, z.few);
         fewer = z.fewer;
         leaves = omega arith;

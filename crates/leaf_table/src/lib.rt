@@ -1,5 +1,5 @@
 // The leaf table (docs/RULES.md, 'Leaf report'): eight words for each leaf with centers, from the node tables of a tree.
-#![tactic(auto)]
+#![tactic(auto, unfolding(crate::specs::LeafTable::leaf_words, crate::specs::Inner::node_at))]
 
 ghost use Rattle.std.specs.Prelude.{◌≡◌, ◌&&◌, cond, ℕ, ◌+◌, ◌*◌, ◌^◌, ◌≤◌, ◌<◌, eqb, ltb, length, get_or};
 ghost use Rattle.base.specs.Limits.{max_atoms};
@@ -24,7 +24,7 @@ fn read_box(boxes: &[f32], i: usize) -> OctreeBounds
     requires { i * 6 + 6 ≤ length boxes.now }
     ensures { result ≡ box_between (point_at boxes.now (i * 2)) (point_at boxes.now (i * 2 + 1)) }
 {
-    OctreeBounds::from_cell(Cell {
+    OctreeBounds::from(Cell {
         low: cell::point(boxes, i * 2),
         high: cell::point(boxes, i * 2 + 1),
     })
@@ -44,7 +44,7 @@ fn dry_bit(records: &[u32], i: usize) -> usize
     ensures is { result ≡ cond (eqb (get_or records.now (i * 8 + 4) 0) 0) 1 0 }
     ensures small { result ≤ 1 }
 {
-    if records[i * 8 + 4] == 0 { 1 } else { 0 }
+    usize::from(records[i * 8 + 4] == 0)
 }
 
 // Writes the eight words of a leaf: node i, with so many centers and waters in its box b.
@@ -75,9 +75,9 @@ fn put_row(
         centers,
         wet,
         leaf::occupancy_word(own),
-        base::word(shell),
+        shell as u32,
         leaf::occupancy_word(around),
-        numbers::class::to_bits32(score),
+        numbers::class::to_bits(score),
     );
 }
 
@@ -105,7 +105,7 @@ fn put_leaf(
         m,
         density,
         reference,
-        base::word(i),
+        i as u32,
         records[i * 8 + 2],
         records[i * 8 + 4],
         read_box(boxes, i),
@@ -134,8 +134,7 @@ pub fn put_leaves(
 {
     let mut reported = 0;
     let mut dry = 0;
-    let mut i = 0;
-    while i < n {
+    for i in 0..n {
         // Leaves without centers are passed over, so the table has no more rows than nodes.
         if is_reported(records, i) {
             put_leaf(
@@ -144,10 +143,6 @@ pub fn put_leaves(
             dry += dry_bit(records, i);
             reported += 1;
         }
-        i += 1;
     }
-    Counts {
-        reported: reported,
-        dry: dry,
-    }
+    Counts { reported, dry }
 }

@@ -5,10 +5,11 @@ use mathlib.Core.List.{List, [], ◌∷◌}
 use Prim.Native.Nat.{ℕ}
 use lib.ListN.{replicate}
 use lib.Ieee.{Float, binary32, of_bits, to_bits}
-use Rattle.base.specs.Refusals.{first_refusal}
+use Rattle.base.specs.Refusals.{first_refusal, refused}
 use Rattle.base.specs.Tables.{over}
 use Rattle.text.specs.Text.{ascii, glyph, digits, places_in, places, decimal, hex, hex_bits, occupancy}
-use Rattle.listing.specs.declared.Listed.TheVariants.{Written, Refused}
+use Rattle.std.proofs.Common.{Ok}
+use Rattle.mixing.specs.declared.Mixture.{Mixture}
 use Rattle.listing.specs.Listing.{
   refused_text,
   blank_text,
@@ -41,11 +42,20 @@ leaves =
 abbrev pub listed : List ℕ
 listed = ascii "clusters 2 3F800000 3F800000 3F800000\ndispersion 3E800000\nnodes 6 depth 3\nleaf 3 1 0 dry 1 3FAAAAAB 3E000000\nleaf 4 1 0 dry 1 3FAAAAAB 3E000000\ndryleaves 2\n"
 
+abbrev mixture : Mixture
+mixture =
+    record {
+      counted = record { copies = 2; picks = 2 };
+      fractions = record { largest = one; contacted = one; pair = one };
+      dispersion = quarter;
+      report = record { nodes = 6; depth = 3; leaves = 2; dry = 2 };
+    }
+
 pub record Checked : Type 0 where
-  pub listing : listing_text 2 one one one quarter 6 3 leaves 2 2 ≡ listed
-  pub bytes : text_answer (leaves_missing leaves 2) listed (replicate 200 0) ≡ Written 156
+  pub listing : listing_text mixture leaves ≡ listed
+  pub bytes : text_answer (leaves_missing leaves 2) listed (replicate 200 0) ≡ Ok 156
   -- more leaves than the table has
-  pub missing : text_answer (leaves_missing leaves 3) listed (replicate 200 0) ≡ Refused 7
+  pub missing : text_answer (leaves_missing leaves 3) listed (replicate 200 0) ≡ refused 7
   -- the other two texts; a buffer keeps what stands past the text, and all of it where the text has no room
   pub refusal : refused_text 14 ≡ ascii "refused 14\n"
   pub blank : text_after false blank_text (replicate 8 7) ≡ ascii "blank\n\u{7}\u{7}"

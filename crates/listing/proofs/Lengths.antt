@@ -1,16 +1,15 @@
--- How many bytes the lines have, and how many at most; and whether the leaves' lines have room, a line at a time.
+-- How many bytes the lines have, and how many at most.
 -- Assumes nothing.
-use mathlib.Core.Path.{◌≡◌, refl, sym, ◌∙◌}
+use mathlib.Core.Path.{◌≡◌}
 use mathlib.Core.Bool.{Bool, true, false, cond}
-use mathlib.Core.List.{List, [], ◌++◌}
-use Prim.Native.Nat.{ℕ, zero, suc, ◌+◌, ◌-◌, ◌*◌, ◌≤◌, ◌<◌}
-use native.Mathlib.Decide.{dec_le}
+use mathlib.Core.List.{List}
+use Prim.Native.Nat.{ℕ, zero, suc, ◌+◌, ◌*◌, ◌≤◌}
 use native.Mathlib.Omega.{arith}
-use lib.Dec.{leb, eqb}
+use lib.Dec.{eqb}
 use lib.ListN.{length, get_or, length-append}
 use lib.Ieee.{Float, binary32, to_bits}
-use borrow.Author.Tests.{le-leb, lt-leb}
 use Rattle.text.specs.Text.{ascii, places, decimal, hex, hex_bits, occupancy}
+use Rattle.mixing.specs.declared.Mixture.{Mixture}
 use Rattle.listing.specs.Listing.{refused_text, clusters_line, dispersion_line, nodes_line, leaf_line, leaf_lines, dry_line, listing_text}
 use Rattle.text.proofs.Numerals.{length_digits, places-few}
 
@@ -51,25 +50,9 @@ unfolding leaf_line
 length-leaf t p = simp (length-append, length-decimal, length-hex) (omega arith)
 
 -- all lines: those besides the leaves', and theirs
-pub length-listing : (copies : ℕ) (x y z d : Float) (nodes depth : ℕ) (t : List ℕ) (count dry : ℕ) → length (listing_text copies x y z d nodes depth t count dry) ≡ 82 + places copies + places nodes + places depth + places dry + length (leaf_lines t count 0)
+pub length-listing : (m : Mixture) (t : List ℕ) → length (listing_text m t) ≡ 82 + places m.counted.copies + places m.report.nodes + places m.report.depth + places m.report.dry + length (leaf_lines t m.report.leaves 0)
 unfolding listing_text
-length-listing copies x y z d nodes depth t count dry = simp (length-append, length-clusters, length-dispersion, length-nodes, length-dry) (omega arith)
-
--- ---- the leaves' lines
-pub leaves_none : (t : List ℕ) (n p : ℕ) → n ≤ 0 → leaf_lines t n p ≡ []
-unfolding leaf_lines
-leaves_none t zero p h = refl
-leaves_none t (suc n) p h = absurd (omega arith)
-
-leaves-some : (t : List ℕ) (k m p : ℕ) → k ≡ suc m → leaf_lines t k p ≡ leaf_line t p ++ leaf_lines t m (p + 8)
-unfolding leaf_lines
-leaves-some t k m p e = rw e
-
-pub leaves-more : (t : List ℕ) (n i p : ℕ) → i < n → leaf_lines t (n - i) p ≡ leaf_line t p ++ leaf_lines t (n - (i + 1)) (p + 8)
-leaves-more t n i p h = leaves-some t (n - i) (n - (i + 1)) p (omega arith)
-
-pub leaves-length : (t : List ℕ) (n i p : ℕ) → i < n → length (leaf_lines t (n - i) p) ≡ length (leaf_line t p) + length (leaf_lines t (n - (i + 1)) (p + 8))
-leaves-length t n i p h = rw (leaves-more t n i p h) (length-append (leaf_line t p) (leaf_lines t (n - (i + 1)) (p + 8)))
+length-listing m t = simp (length-append, length-clusters, length-dispersion, length-nodes, length-dry) (omega arith)
 
 -- ---- at most so many bytes: a number has twenty digits at most, an occupancy eight
 pub refused-few : (n : ℕ) → length (refused_text n) ≤ 29
@@ -101,14 +84,14 @@ unfolding leaf_lines
 leaves-few t zero p = omega arith
 leaves-few t (suc n) p = omega (arith, length-append (leaf_line t p) (leaf_lines t n (p + 8)), leaf-few t p, leaves-few t n (p + 8))
 
-pub listing-few : (copies : ℕ) (x y z d : Float) (nodes depth : ℕ) (t : List ℕ) (count dry : ℕ) → length (listing_text copies x y z d nodes depth t count dry) ≤ 162 + count * 116
-listing-few copies x y z d nodes depth t count dry =
-    omega (arith, length-listing copies x y z d nodes depth t count dry, places-few copies, places-few nodes, places-few depth, places-few dry, leaves-few t count 0)
-
--- a line that fits takes its bytes of the room; with one that does not, nothing fits
-pub fits-less : (n m left : ℕ) → n ≤ left → leb (n + m) left ≡ leb m (left - n)
-fits-less n m left h = by-rest (dec_le m (left - n))
-  where
-    by-rest : Dec (m ≤ left - n) → leb (n + m) left ≡ leb m (left - n)
-    by-rest (yes l) = le-leb (n + m) left (omega arith) ∙ sym (le-leb m (left - n) l)
-    by-rest (no l) = lt-leb (n + m) left (omega arith) ∙ sym (lt-leb m (left - n) (omega arith))
+pub listing-few : (m : Mixture) (t : List ℕ) → length (listing_text m t) ≤ 162 + m.report.leaves * 116
+listing-few m t =
+    omega (
+      arith,
+      length-listing m t,
+      places-few m.counted.copies,
+      places-few m.report.nodes,
+      places-few m.report.depth,
+      places-few m.report.dry,
+      leaves-few t m.report.leaves 0,
+    )

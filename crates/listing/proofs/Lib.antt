@@ -3,6 +3,8 @@
 pub mod Pieces
 -- how many bytes the lines have
 pub mod Lengths
+-- the leaves' lines, a leaf at a time
+pub mod Leaves
 -- a line written a word at a time
 pub mod Words
 -- what a call that writes a text owes

@@ -23,3 +23,6 @@ module _ {at : ℕ} {all t₀ : List ℕ} {end : ℕ} where
   -- with the last piece all is written
   pub last-piece : {rest t : List ℕ} → Filling at all t₀ end rest t → {r : ℕ} {t₁ : List ℕ} → Put end rest t r t₁ → Put at all t₀ r t₁
   last-piece z e = (e.0 ∙ z.left, e.1 ∙ z.table)
+
+-- how long pieces are, one after the other
+pub ruleset lengths = (length-append)

@@ -7,7 +7,7 @@ use native.Mathlib.Omega.{arith}
 use lib.ListN.{length, get_or, drop}
 use Rattle.text.specs.Text.{followed, line}
 use Rattle.base.proofs.Filling.{Filling, filling-first}
-use Rattle.listing.proofs.Pieces.{Put, piece-fits, piece, last-piece}
+use Rattle.listing.proofs.Pieces.{Put, piece, last-piece}
 
 -- the words from the k-th on begin with it
 line-next : (ws : List (List ℕ)) (k : ℕ) → suc k < length ws → line (drop k ws) ≡ followed (get_or ws k []) 32 ++ line (drop (suc k) ws)
@@ -37,14 +37,8 @@ module _ {at : ℕ} {ws : List (List ℕ)} {t₀ : List ℕ} {k end : ℕ} {t : 
   last : suc k ≡ length ws → Words at ws t₀ k end t → Filling at (line ws) t₀ end (followed (get_or ws k []) 10) t
   last h z = rw (line-last ws k h) at z.fill
 
-  pub next_fits : suc k < length ws → Words at ws t₀ k end t → end + length (followed (get_or ws k []) 32) ≤ length t
-  next_fits h z = piece-fits (followed (get_or ws k []) 32) (line (drop (suc k) ws)) (next h z)
-
   pub words-next : suc k < length ws → Words at ws t₀ k end t → {r : ℕ} {t₁ : List ℕ} → Put end (followed (get_or ws k []) 32) t r t₁ → Words at ws t₀ (suc k) r t₁
   words-next h z e = record { fill = piece (followed (get_or ws k []) 32) (line (drop (suc k) ws)) (next h z) e }
-
-  pub last_fits : suc k ≡ length ws → Words at ws t₀ k end t → end + length (followed (get_or ws k []) 10) ≤ length t
-  last_fits h z = (last h z).room
 
   pub words_last : suc k ≡ length ws → Words at ws t₀ k end t → {r : ℕ} {t₁ : List ℕ} → Put end (followed (get_or ws k []) 10) t r t₁ → Put at (line ws) t₀ r t₁
   words_last h z e = last-piece (last h z) e

@@ -1,11 +1,11 @@
 -- docs/RULES.md, program `frame`: what it prints, `refused` and the number, or `blank`, or the listing, and what a call that writes it
 -- into a lent buffer answers. Floats are bits in hexadecimal, other numbers decimal. Definitions only. Assumes nothing.
-use Rattle.std.specs.Prelude.{ℕ, zero, suc, ◌+◌, ◌*◌, Bool, ◌||◌, List, [], ◌∷◌, ◌++◌, ltb, length, get_or, Float}
-use Rattle.base.specs.Refusals.{refuse, first_refusal}
+use Rattle.std.specs.Prelude.{ℕ, zero, suc, ◌+◌, ◌*◌, Bool, ◌||◌, List, [], ◌∷◌, ◌++◌, ltb, length, get_or, Float, Result, Ok}
+use Rattle.base.specs.declared.Refused.{Refused}
+use Rattle.base.specs.Refusals.{refuse, first_refusal, refused}
 use Rattle.base.specs.Tables.{over, unless_refused}
 use Rattle.text.specs.Text.{ascii, decimal, hex, hex_bits, occupancy, line}
-use Rattle.listing.specs.declared.Listed.{Listed}
-use Rattle.listing.specs.declared.Listed.TheVariants.{Written, Refused}
+use Rattle.mixing.specs.declared.Mixture.{Mixture}
 
 -- ---- the lines
 unfoldable pub refused_text : ℕ → List ℕ
@@ -52,10 +52,11 @@ leaf_lines t (suc n) p = leaf_line t p ++ leaf_lines t n (p + 8)
 unfoldable pub dry_line : ℕ → List ℕ
 dry_line dry = line (ascii "dryleaves" ∷ decimal dry ∷ [])
 
--- the listing, of the leaf table t and its first `count` leaves
-unfoldable pub listing_text : ℕ → Float → Float → Float → Float → ℕ → ℕ → List ℕ → ℕ → ℕ → List ℕ
-listing_text copies largest contacted pair dispersion nodes depth t count dry =
-    clusters_line copies largest contacted pair ++ (dispersion_line dispersion ++ (nodes_line nodes depth ++ (leaf_lines t count 0 ++ dry_line dry)))
+-- the listing of what the whole frame answers, with the leaf table t
+unfoldable pub listing_text : Mixture → List ℕ → List ℕ
+listing_text m t =
+    clusters_line m.counted.copies m.fractions.largest m.fractions.contacted m.fractions.pair
+    ++ (dispersion_line m.dispersion ++ (nodes_line m.report.nodes m.report.depth ++ (leaf_lines t m.report.leaves 0 ++ dry_line m.report.dry)))
 
 -- whether the leaf table t has fewer than `count` leaves
 abbrev pub leaves_missing : List ℕ → ℕ → Bool
@@ -66,9 +67,9 @@ leaves_missing t count = ltb (length t) (count * 8)
 unfoldable pub text_refusal : Bool → List ℕ → List ℕ → ℕ
 text_refusal missing text out = first_refusal (refuse 7 (missing || ltb (length out) (length text)) ∷ [])
 
--- the bytes written, or a refusal by its number
-unfoldable pub text_answer : Bool → List ℕ → List ℕ → Listed
-text_answer missing text out = unless_refused (text_refusal missing text out) (Written (length text)) (Refused (text_refusal missing text out))
+-- the bytes written, or the refusal
+unfoldable pub text_answer : Bool → List ℕ → List ℕ → Result ℕ Refused
+text_answer missing text out = unless_refused (text_refusal missing text out) (Ok (length text)) (refused (text_refusal missing text out))
 
 unfoldable pub text_after : Bool → List ℕ → List ℕ → List ℕ
 text_after missing text out = unless_refused (text_refusal missing text out) (over text out) out

@@ -1,27 +1,28 @@
 // The lines of the listing, each written from entry `at` on; each answers where it ends.
-ghost use Rattle.std.specs.Prelude.{◌≡◌, ◌+◌, ◌*◌, ◌<◌, ◌≤◌, length, get_or};
+#![tactic(auto, using(crate::proofs::Pieces::lengths), unfolding(crate::specs::Listing::clusters_line, crate::specs::Listing::dispersion_line, crate::specs::Listing::nodes_line, crate::specs::Listing::leaf_line, crate::specs::Listing::dry_line))]
+
+ghost use Rattle.std.specs.Prelude.{◌≡◌, ◌+◌, ◌*◌, ◌≤◌, length};
 ghost use Rattle.base.specs.Tables.{placed};
-ghost use Rattle.text.specs.Text.{decimal, followed};
 ghost use Rattle.listing.specs.Listing.{clusters_line, dispersion_line, nodes_line, leaf_line, leaf_lines, dry_line, listing_text};
 
+use cluster_table::ClusterFractions;
+use mixing::Mixture;
 use text::{put_bits, put_number, put_occupancy, put_text, put_word};
 
 pub(crate) fn put_clusters(
     copies: usize,
-    largest: f32,
-    contacted: f32,
-    pair: f32,
+    fractions: ClusterFractions,
     out: &mut [u8],
     at: usize,
 ) -> usize
-    requires { at + length (clusters_line copies largest contacted pair) ≤ length out.old }
-    ensures { (result ≡ at + length (clusters_line copies largest contacted pair)) × (out.new ≡ placed at (clusters_line copies largest contacted pair) out.old) }
+    requires { at + length (clusters_line copies fractions.largest fractions.contacted fractions.pair) ≤ length out.old }
+    ensures { (result ≡ at + length (clusters_line copies fractions.largest fractions.contacted fractions.pair)) × (out.new ≡ placed at (clusters_line copies fractions.largest fractions.contacted fractions.pair) out.old) }
 {
     let word = put_text(b"clusters ", out, at);
     let first = put_number(copies, b' ', out, word);
-    let second = put_bits(largest, b' ', out, first);
-    let third = put_bits(contacted, b' ', out, second);
-    put_bits(pair, b'\n', out, third)
+    let second = put_bits(fractions.largest, b' ', out, first);
+    let third = put_bits(fractions.contacted, b' ', out, second);
+    put_bits(fractions.pair, b'\n', out, third)
 }
 
 pub(crate) fn put_dispersion(dispersion: f32, out: &mut [u8], at: usize) -> usize
@@ -42,27 +43,19 @@ pub(crate) fn put_nodes(nodes: usize, depth: usize, out: &mut [u8], at: usize) -
     put_number(depth, b'\n', out, second)
 }
 
-// An entry of a table in decimal, and a blank.
-fn put_entry(table: &[u32], i: usize, out: &mut [u8], at: usize) -> usize
-    requires { (i < length table.now) × (at + length (followed (decimal (get_or table.now i 0)) 32) ≤ length out.old) }
-    ensures { (result ≡ at + length (followed (decimal (get_or table.now i 0)) 32)) × (out.new ≡ placed at (followed (decimal (get_or table.now i 0)) 32) out.old) }
+fn put_leaf(leaf: &[u32; 8], out: &mut [u8], at: usize) -> usize
+    requires { at + length (leaf_line leaf.now 0) ≤ length out.old }
+    ensures { (result ≡ at + length (leaf_line leaf.now 0)) × (out.new ≡ placed at (leaf_line leaf.now 0) out.old) }
 {
-    put_number(table[i] as usize, b' ', out, at)
-}
-
-// The leaf at entry p of the leaf table.
-fn put_leaf(leaves: &[u32], p: usize, out: &mut [u8], at: usize) -> usize
-    requires { (p + 8 ≤ length leaves.now) × (at + length (leaf_line leaves.now p) ≤ length out.old) }
-    ensures { (result ≡ at + length (leaf_line leaves.now p)) × (out.new ≡ placed at (leaf_line leaves.now p) out.old) }
-{
+    let [node, centers, waters, inside, seen, shell, score, _] = *leaf;
     let word = put_text(b"leaf ", out, at);
-    let node = put_entry(leaves, p, out, word);
-    let centers = put_entry(leaves, p + 1, out, node);
-    let waters = put_entry(leaves, p + 2, out, centers);
-    let inside = put_occupancy(leaves[p + 3], out, waters);
-    let seen = put_entry(leaves, p + 4, out, inside);
-    let shell = put_occupancy(leaves[p + 5], out, seen);
-    put_word(leaves[p + 6], b'\n', out, shell)
+    let first = put_number(node as usize, b' ', out, word);
+    let second = put_number(centers as usize, b' ', out, first);
+    let third = put_number(waters as usize, b' ', out, second);
+    let fourth = put_occupancy(inside, out, third);
+    let fifth = put_number(seen as usize, b' ', out, fourth);
+    let sixth = put_occupancy(shell, out, fifth);
+    put_word(score, b'\n', out, sixth)
 }
 
 // So many leaves, from the start of the leaf table on.
@@ -70,13 +63,10 @@ pub(crate) fn put_leaves(leaves: &[u32], count: usize, out: &mut [u8], at: usize
     requires { (count * 8 ≤ length leaves.now) × (at + length (leaf_lines leaves.now count 0) ≤ length out.old) }
     ensures { (result ≡ at + length (leaf_lines leaves.now count 0)) × (out.new ≡ placed at (leaf_lines leaves.now count 0) out.old) }
 {
+    let (table, _) = leaves.as_chunks::<8>();
     let mut end = at;
-    let mut p: usize = 0;
-    let mut i: usize = 0;
-    while i < count {
-        end = put_leaf(leaves, p, out, end);
-        p += 8;
-        i += 1;
+    for leaf in &table[..count] {
+        end = put_leaf(leaf, out, end);
     }
     end
 }
@@ -90,25 +80,14 @@ pub(crate) fn put_dry(dry: usize, out: &mut [u8], at: usize) -> usize
 }
 
 // All lines, from the buffer's start on.
-pub(crate) fn put_lines(
-    copies: usize,
-    largest: f32,
-    contacted: f32,
-    pair: f32,
-    dispersion: f32,
-    nodes: usize,
-    depth: usize,
-    leaves: &[u32],
-    count: usize,
-    dry: usize,
-    out: &mut [u8],
-) -> usize
-    requires { (count * 8 ≤ length leaves.now) × (length (listing_text copies largest contacted pair dispersion nodes depth leaves.now count dry) ≤ length out.old) }
-    ensures { (result ≡ 0 + length (listing_text copies largest contacted pair dispersion nodes depth leaves.now count dry)) × (out.new ≡ placed 0 (listing_text copies largest contacted pair dispersion nodes depth leaves.now count dry) out.old) }
+#[tactic(auto, using(crate::proofs::Pieces::lengths), unfolding(crate::specs::Listing::listing_text))]
+pub(crate) fn put_lines(m: Mixture, leaves: &[u32], out: &mut [u8]) -> usize
+    requires { (m.report.leaves * 8 ≤ length leaves.now) × (length (listing_text m leaves.now) ≤ length out.old) }
+    ensures { (result ≡ 0 + length (listing_text m leaves.now)) × (out.new ≡ placed 0 (listing_text m leaves.now) out.old) }
 {
-    let first = put_clusters(copies, largest, contacted, pair, out, 0);
-    let second = put_dispersion(dispersion, out, first);
-    let third = put_nodes(nodes, depth, out, second);
-    let fourth = put_leaves(leaves, count, out, third);
-    put_dry(dry, out, fourth)
+    let first = put_clusters(m.counted.copies, m.fractions, out, 0);
+    let second = put_dispersion(m.dispersion, out, first);
+    let third = put_nodes(m.report.nodes, m.report.depth, out, second);
+    let fourth = put_leaves(leaves, m.report.leaves, out, third);
+    put_dry(m.report.dry, out, fourth)
 }

@@ -1,8 +1,9 @@
 // How many bytes a text has.
-ghost use Rattle.std.specs.Prelude.{◌≡◌, ◌+◌, ◌*◌, ◌<◌, ◌≤◌, length, get_or, leb};
+ghost use Rattle.std.specs.Prelude.{◌≡◌, ◌+◌, ◌*◌, ◌≤◌, length, leb};
 ghost use Rattle.text.specs.Text.{places, occupancy};
 ghost use Rattle.listing.specs.Listing.{leaf_line, leaf_lines};
 
+use mixing::Mixture;
 use text::decimal_places;
 
 // `dry`, or eight digits.
@@ -12,24 +13,17 @@ fn occupancy_size(w: u32) -> usize
     if w == 0 { 3 } else { 8 }
 }
 
-fn entry_places(table: &[u32], at: usize) -> usize
-    requires { at < length table.now }
-    ensures { (result ≡ places (get_or table.now at 0)) × (result ≤ 20) }
+// The line of a leaf.
+fn leaf_size(leaf: &[u32; 8]) -> usize
+    ensures { result ≡ length (leaf_line leaf.now 0) }
 {
-    decimal_places(table[at] as usize)
-}
-
-// The line of the leaf at entry p.
-fn leaf_size(leaves: &[u32], p: usize) -> usize
-    requires { p + 8 ≤ length leaves.now }
-    ensures { result ≡ length (leaf_line leaves.now p) }
-{
-    20 + entry_places(leaves, p)
-        + entry_places(leaves, p + 1)
-        + entry_places(leaves, p + 2)
-        + occupancy_size(leaves[p + 3])
-        + entry_places(leaves, p + 4)
-        + occupancy_size(leaves[p + 5])
+    let [node, centers, waters, inside, seen, shell, _, _] = *leaf;
+    20 + decimal_places(node as usize)
+        + decimal_places(centers as usize)
+        + decimal_places(waters as usize)
+        + occupancy_size(inside)
+        + decimal_places(seen as usize)
+        + occupancy_size(shell)
 }
 
 // Whether the lines of so many leaves have at most so many bytes. The room is used up a line at a time, so that no sum wraps.
@@ -37,27 +31,23 @@ pub(crate) fn leaves_fit(leaves: &[u32], count: usize, room: usize) -> bool
     requires { count * 8 ≤ length leaves.now }
     ensures { result ≡ leb (length (leaf_lines leaves.now count 0)) room }
 {
+    let (table, _) = leaves.as_chunks::<8>();
     let mut left = room;
-    let mut p: usize = 0;
-    let mut i: usize = 0;
-    while i < count {
-        let n = leaf_size(leaves, p);
-        if left < n {
+    for leaf in &table[..count] {
+        let Some(rest) = left.checked_sub(leaf_size(leaf)) else {
             return false;
-        }
-        left -= n;
-        p += 8;
-        i += 1;
+        };
+        left = rest;
     }
     true
 }
 
 // All lines but those of the leaves.
-pub(crate) fn head_size(copies: usize, nodes: usize, depth: usize, dry: usize) -> usize
-    ensures { (result ≡ 82 + places copies + places nodes + places depth + places dry) × (result ≤ 162) }
+pub(crate) fn head_size(m: Mixture) -> usize
+    ensures { (result ≡ 82 + places m.counted.copies + places m.report.nodes + places m.report.depth + places m.report.dry) × (result ≤ 162) }
 {
-    82 + decimal_places(copies)
-        + decimal_places(nodes)
-        + decimal_places(depth)
-        + decimal_places(dry)
+    82 + decimal_places(m.counted.copies)
+        + decimal_places(m.report.nodes)
+        + decimal_places(m.report.depth)
+        + decimal_places(m.report.dry)
 }

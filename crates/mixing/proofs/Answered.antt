@@ -6,7 +6,6 @@ use Prim.Native.Nat.{ℕ, zero, suc, ◌*◌, ◌≤◌}
 use native.Mathlib.Omega.{arith}
 use lib.Dec.{ltb}
 use lib.ListN.{length}
-use lib.Ieee.{Float}
 use borrow.Author.Tests.{ltb-false}
 use Rattle.base.specs.Refusals.{first_refusal}
 use Rattle.base.proofs.FirstRefusal.{zero_of}
@@ -14,9 +13,9 @@ use Rattle.leaf_table.proofs.LeafList.{reported-few}
 use Rattle.leaf_table.specs.LeafTable.{reported_leaves}
 use Rattle.tree.specs.Tree.{frame_tree}
 use Rattle.report.specs.Report.{report_room}
-use Rattle.mixing.specs.declared.FrameAnswer.TheVariants.{Blank, Mixed}
-use Rattle.mixing.specs.declared.FrameAnswer.{FrameAnswer}
-use Rattle.mixing.specs.Frame.{Frame, FrameTables, tree_input, sized, limited, blank_holds, refused_or, mixed_answer, frame_refusal, frame_blank, frame_answer}
+use Rattle.std.proofs.Common.{Ok, Some, None, ap}
+use Rattle.mixing.specs.declared.Mixture.{Mixture}
+use Rattle.mixing.specs.Frame.{Frame, FrameTables, tree_input, sized, limited, blank_holds, refused_or, mixture, mixed_answer, frame_refusal, frame_blank, frame_answer}
 use Rattle.mixing.proofs.Outcomes.{Passed, room_number, number-limit, number_size, number-room, blank-is}
 
 nodes-fit : (room n : ℕ) → ◌≡◌ {A = ℕ} (cond (ltb room n) 13 0) 0 → n ≤ room
@@ -42,28 +41,24 @@ module _ (f : Frame) (t : FrameTables) where
     no-refusal = sym (number-room f t limits-none some passes.fits) ∙ e
 
   -- ---- what an answer has
-  pub record Answered (a : FrameAnswer) : Type 0 where
+  pub record Answered (m : Mixture) : Type 0 where
     pub passed : Passed f t
     pub unrefused : room_number f t ≡ 0
     pub nodes-few : length (frame_tree (tree_input f)).nodes ≤ report_room t.tree t.leaves
-    pub is : a ≡ mixed_answer f t
+    pub is : m ≡ mixture f t
 
-  module _ {copies picks : ℕ} {largest contacted pair dispersion : Float} {nodes depth leaves dry : ℕ} where
-    pub answered : Mixed copies picks largest contacted pair dispersion nodes depth leaves dry ≡ frame_answer f t
-        → Answered (Mixed copies picks largest contacted pair dispersion nodes depth leaves dry)
-    unfolding frame_answer first_refusal
-    answered h = by-blank (frame_blank f) refl (frame_refusal f t) refl h
-      where
-        by-blank : (b : Bool) → frame_blank f ≡ b → (r : ℕ) → frame_refusal f t ≡ r
-            → Mixed copies picks largest contacted pair dispersion nodes depth leaves dry ≡ cond b Blank (refused_or r (mixed_answer f t))
-            → Answered (Mixed copies picks largest contacted pair dispersion nodes depth leaves dry)
-        by-blank true b r e g = absurd (let z : ◌≡◌ {A = ℕ} 0 1 = cc in omega arith)
-        by-blank false b (suc r) e g = absurd (let z : ◌≡◌ {A = ℕ} 0 1 = cc in omega arith)
-        by-blank false b zero e g = record { passed = passes b e; unrefused = no-refusal b e; nodes-few = nodes-fit _ _ (no-refusal b e); is = g }
+  pub answered : (m : Mixture) → Ok (Some m) ≡ frame_answer f t → Answered m
+  unfolding frame_answer mixed_answer first_refusal
+  answered m h = by-blank (frame_blank f) refl (frame_refusal f t) refl h
+    where
+      by-blank : (b : Bool) → frame_blank f ≡ b → (r : ℕ) → frame_refusal f t ≡ r → Ok (Some m) ≡ cond b (Ok None) (refused_or r (mixed_answer f t)) → Answered m
+      by-blank true b r e g = cc
+      by-blank false b (suc r) e g = cc
+      by-blank false b zero e g = record { passed = passes b e; unrefused = no-refusal b e; nodes-few = nodes-fit _ _ (no-refusal b e); is = cc }
 
-    pub listed-leaves : Mixed copies picks largest contacted pair dispersion nodes depth leaves dry ≡ frame_answer f t → leaves * 8 ≤ length t.leaves
-    unfolding mixed_answer
-    listed-leaves h =
-        let a = answered h in
-        let e : leaves ≡ reported_leaves (frame_tree (tree_input f)).nodes = cc a.is in
-        omega (arith, a.nodes-few, reported-few (frame_tree (tree_input f)).nodes)
+  pub listed-leaves : (m : Mixture) → Ok (Some m) ≡ frame_answer f t → m.report.leaves * 8 ≤ length t.leaves
+  unfolding mixture
+  listed-leaves m h =
+      let a = answered m h in
+      let e : m.report.leaves ≡ reported_leaves (frame_tree (tree_input f)).nodes = ap (λ (x : Mixture). x.report.leaves) a.is in
+      omega (arith, a.nodes-few, reported-few (frame_tree (tree_input f)).nodes)

@@ -1,8 +1,9 @@
 -- The answers of the whole frame are those of the calls that it stands for: a frame with an answer has passed every test, so that none of
 -- the calls refuses. Assumes nothing.
-use mathlib.Core.Path.{◌≡◌, refl, sym, ◌∙◌}
+use mathlib.Core.Path.{◌≡◌, sym, ◌∙◌}
 use mathlib.Core.List.{[]}
 use Rattle.base.specs.Refusals.{first_refusal}
+use Rattle.base.proofs.FirstRefusal.{answer-none}
 use Rattle.frame_limits.specs.Limits.{frame_refusals, limit_refusals}
 use Rattle.frame_limits.proofs.FrameRefusals.{limit-chain, frame-chain}
 use Rattle.pick_lists.proofs.InputRefusals.{input-sound}
@@ -10,7 +11,7 @@ use Rattle.scan.proofs.Scans.{scanned-closes}
 use Rattle.dispersion.proofs.Answers.{dispersion-answered}
 use Rattle.tree.proofs.TreeRefusals.{test-none, call-room}
 use Rattle.report.specs.Report.{report_room, report_refusal, answer_by, report_answer}
-use Rattle.mixing.specs.Frame.{Frame, FrameTables, scan_input, tree_input, mixed_answer}
+use Rattle.mixing.specs.Frame.{Frame, FrameTables, scan_input, tree_input, mixture}
 use Rattle.mixing.specs.Calls.{AnswersAsCalls}
 use Rattle.mixing.proofs.Outcomes.{Passed, room_number}
 use Rattle.mixing.proofs.Tested.{within-limits, room, valid-cell, fine, cores-fit, lists-sound, selects}
@@ -32,16 +33,16 @@ module _ (f : Frame) (t : FrameTables) (p : Passed f t) where
   report-refuses =
       let input = input-sound (tree_input f) frame-fine (lists-sound f t p) in
       call-room (report_room t.tree t.leaves) (tree_input f) t.tree
-      (sym (test-none (tree_input f) t.tree.center_order t.tree.water_order (sym input) (cores-fit f t p).1.0 (cores-fit f t p).1.1))
+      (sym (test-none (tree_input f) t.tree.center_order t.tree.water_order input (cores-fit f t p).1.0 (cores-fit f t p).1.1))
 
 pub as-calls : AnswersAsCalls
-unfolding mixed_answer report_answer answer_by
-as-calls f t copies picks largest contacted pair dispersion nodes depth leaves dry h =
-    let a = answered f t (sym h) in
+unfolding mixture report_answer answer_by
+as-calls f t m h =
+    let a = answered f t m (sym h) in
     let p = a.passed in
-    record {
-      select = sym (selects f t p).0 ∙ cc a.is;
-      close = scanned-closes (scan_input f) f.cutoff t.clusters (fine f t p) (room f t p).reaches (cores-fit f t p).0.1 ∙ cc a.is;
-      disperse = sym (dispersion-answered (scan_input f) 0 (sym (fine f t p)) refl dispersion (cc a.is));
-      report = rw (report-refuses f t p, a.unrefused) (cc a.is);
-    }
+    rw a.is (record {
+      select = sym (selects f t p).0;
+      close = scanned-closes (scan_input f) f.cutoff t.clusters (fine f t p) (room f t p).reaches (cores-fit f t p).0.1;
+      disperse = sym (dispersion-answered (scan_input f) (sym (answer-none _ (fine f t p))));
+      report = rw (report-refuses f t p, a.unrefused);
+    })

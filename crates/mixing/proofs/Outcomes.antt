@@ -5,15 +5,16 @@ use mathlib.Core.List.{List, [], ◌∷◌}
 use Prim.Native.Nat.{ℕ}
 use native.Mathlib.Omega.{arith}
 use borrow.Author.Tests.{eq-eqb, ne_eqb}
-use Rattle.base.specs.Refusals.{Refusal, first_refusal}
+use Rattle.base.specs.Refusals.{Refusal, first_refusal, refused, answer_of}
 use Rattle.frame_limits.specs.Limits.{limit_refusals, lengths, counts, bounds, coordinates}
-use Rattle.base.proofs.FirstRefusal.{numbered, append-hit, append-skip, at-refusal}
+use Rattle.base.proofs.FirstRefusal.{numbered, append-hit, append-skip, at-refusal, refused-number}
 use Rattle.frame_limits.proofs.FrameRefusals.{limit-numbered}
 use Rattle.octree.specs.Tree.{room_refusal, by_number}
 use Rattle.tree.specs.Tree.{frame_tree}
 use Rattle.tree.proofs.TreeRefusals.{without, first-without}
 use Rattle.report.specs.Report.{report_room}
-use Rattle.mixing.specs.declared.FrameAnswer.TheVariants.{Refused, Blank}
+use Rattle.std.proofs.Common.{Ok, Err, None, ap}
+use Rattle.base.specs.declared.Refused.{Refused}
 use Rattle.cell.specs.Reach.{reach}
 use Rattle.frame_tests.specs.Tests.{size_refusals}
 use Rattle.mixing.specs.Frame.{Frame, FrameTables, tree_input, sized, table_refusals, limited, blank_holds, frame_refusal, frame_blank, refused_or, mixed_answer, frame_answer, worked, frame_after}
@@ -45,9 +46,9 @@ module _ (f : Frame) (t : FrameTables) where
   same_tables : (r : ℕ) → (r ≡ 0 → ⊥) → (r ≡ 13 → ⊥) → by_number r (worked 0 f t) (worked 13 f t) t ≡ t
   same_tables r a b = rw (ne_eqb r 0 a, ne_eqb r 13 b)
 
-  answers : frame_blank f ≡ false → (r : ℕ) → frame_refusal f t ≡ r → (r ≡ 0 → ⊥) → (r ≡ 13 → ⊥) → (Refused r ≡ frame_answer f t) × (t ≡ frame_after f t)
+  answers : frame_blank f ≡ false → (r : ℕ) → frame_refusal f t ≡ r → (r ≡ 0 → ⊥) → (r ≡ 13 → ⊥) → (refused r ≡ frame_answer f t) × (t ≡ frame_after f t)
   unfolding frame_answer frame_after
-  answers b r e n m = rw (b, e) (sym (at-refusal r _ (Refused r) n), sym (same_tables r n m))
+  answers b r e n m = rw (b, e) (sym (at-refusal r _ (refused r) n), sym (same_tables r n m))
 
   -- ---- 1, 2, 3, 4
   limit-not-13 : first_refusal (limited f) ≡ 13 → ⊥
@@ -58,8 +59,11 @@ module _ (f : Frame) (t : FrameTables) where
   unfolding frame_blank
   not-blank n = rw (ne_eqb (first_refusal (limited f)) 0 n)
 
-  pub outcome-limit : (r : ℕ) → r ≡ first_refusal (limited f) → (r ≡ 0 → ⊥) → (Refused r ≡ frame_answer f t) × (t ≡ frame_after f t)
-  outcome-limit r e n = answers (not-blank (λ z. n (e ∙ z))) r (number-limit (λ z. n (e ∙ z)) ∙ sym e) n (λ z. limit-not-13 (sym e ∙ z))
+  pub outcome-limit : (e : Refused) → Err e ≡ answer_of (first_refusal (limited f)) → (Err e ≡ frame_answer f t) × (t ≡ frame_after f t)
+  outcome-limit e h =
+      let r = refused-number e (first_refusal (limited f)) h in
+      let told = answers (not-blank r.0) (first_refusal (limited f)) (number-limit r.0) r.0 limit-not-13 in
+      (ap Err r.1 ∙ told.0, told.1)
 
   -- ---- none of these holds
   module _ (within : first_refusal (limited f) ≡ 0) where
@@ -67,7 +71,7 @@ module _ (f : Frame) (t : FrameTables) where
     unfolding frame_blank
     blank-is = rw (eq-eqb (first_refusal (limited f)) 0 within)
 
-    pub outcome-blank : blank_holds f ≡ true → (Blank ≡ frame_answer f t) × (t ≡ frame_after f t)
+    pub outcome-blank : blank_holds f ≡ true → (Ok None ≡ frame_answer f t) × (t ≡ frame_after f t)
     unfolding frame_answer frame_after
     outcome-blank e = rw (blank-is, e) (refl, refl)
 
@@ -93,8 +97,11 @@ module _ (f : Frame) (t : FrameTables) where
       unfolding table_refusals
       number-room e = number-tables ∙ append-skip (sized f t) _ size-numbered e
 
-      pub outcome-size : (r : ℕ) → r ≡ first_refusal (sized f t) → (r ≡ 0 → ⊥) → (Refused r ≡ frame_answer f t) × (t ≡ frame_after f t)
-      outcome-size r e n = answers (blank-is ∙ some) r (number_size (λ z. n (e ∙ z)) ∙ sym e) n (λ z. size-not-13 (sym e ∙ z))
+      pub outcome-size : (e : Refused) → Err e ≡ answer_of (first_refusal (sized f t)) → (Err e ≡ frame_answer f t) × (t ≡ frame_after f t)
+      outcome-size e h =
+          let r = refused-number e (first_refusal (sized f t)) h in
+          let told = answers (blank-is ∙ some) (first_refusal (sized f t)) (number_size r.0) r.0 size-not-13 in
+          (ap Err r.1 ∙ told.0, told.1)
 
   -- ---- what is left is Report's answer, 13 or none
   module _ (p : Passed f t) where

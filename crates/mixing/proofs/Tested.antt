@@ -17,7 +17,7 @@ use Rattle.base.specs.Tables.{over}
 use Rattle.base.proofs.FirstRefusal.{first-none}
 use Rattle.base.proofs.Tests.{neither}
 use Rattle.frame_limits.proofs.FrameRefusals.{Within, limit-none, within-solutes}
-use Rattle.selection.specs.declared.Selected.TheVariants.{Kept}
+use Rattle.std.proofs.Common.{Ok}
 use Rattle.selection.specs.Selection.{starts_of}
 use Rattle.pick_lists.specs.Sound.{copies, sound_lists}
 use Rattle.pick_lists.specs.Input.{given, input_refusals}
@@ -107,9 +107,9 @@ module _ (f : Frame) (t : FrameTables) (p : Passed f t) where
   pub fine : first_refusal (input_refusals (scan_input f)) ≡ 0
   unfolding start_list pick_numbers kept
   fine =
-      sym (input-sound (scan_input f)
+      input-sound (scan_input f)
       (within-solutes f.cell f.solutes f.waters f.indices (within-limits f p.within) valid-cell)
-      (select-sound f.solutes f.per f.indices room.few room.light))
+      (select-sound f.solutes f.per f.indices room.few room.light)
 
   copies-are : copies (start_list f) ≡ length (kept f)
   unfolding start_list
@@ -132,7 +132,7 @@ module _ (f : Frame) (t : FrameTables) (p : Passed f t) where
 
   -- ---- what the cores leave is what the frame leaves
   -- Select's answer and tables
-  pub selects : Answers f.solutes f.per f.indices t.starts t.picks (Kept (length (kept f)) (length (pick_numbers f))) (over (start_list f) t.starts) (over (pick_numbers f) t.picks)
+  pub selects : Answers f.solutes f.per f.indices t.starts t.picks (Ok (record { copies = length (kept f); picks = length (pick_numbers f) })) (over (start_list f) t.starts) (over (pick_numbers f) t.picks)
   unfolding kept pick_numbers start_list long_indices
   selects =
       let w = within-limits f p.within in

@@ -1,8 +1,9 @@
 -- docs/RULES.md, 'Whole frame': 1, 2, 3, 4; then blank; then 5, 6, 16, 7, 13; otherwise Select, Open, the rows in rising order, Close,
 -- Dispersion and Report, with their answers and tables. Definitions only. Assumes nothing.
-use Rattle.std.specs.Prelude.{ℕ, Bool, cond, ◌&&◌, List, [], ◌∷◌, ◌++◌, eqb, length, Float}
+use Rattle.std.specs.Prelude.{ℕ, Bool, cond, ◌&&◌, List, [], ◌∷◌, ◌++◌, eqb, length, Float, Result, Ok, Option, Some, None}
 use Rattle.cell.specs.declared.Cell.{Cell}
-use Rattle.base.specs.Refusals.{Refusal, first_refusal}
+use Rattle.base.specs.declared.Refused.{Refused}
+use Rattle.base.specs.Refusals.{Refusal, first_refusal, refused}
 use Rattle.frame_limits.specs.Limits.{limit_refusals}
 use Rattle.base.specs.Tables.{unless_refused}
 use Rattle.selection.specs.Selection.{kept_copies, starts_of, picks_of, starts_after, picks_after}
@@ -17,8 +18,7 @@ use Rattle.tree.specs.Tree.{frame_tree, input_after}
 use Rattle.leaf_table.specs.LeafTable.{reported_leaves, dry_leaves}
 use Rattle.report.specs.Report.{report_room, leaves_by}
 use Rattle.frame_tests.specs.Tests.{is_blank, size_refusals}
-use Rattle.mixing.specs.declared.FrameAnswer.{FrameAnswer}
-use Rattle.mixing.specs.declared.FrameAnswer.TheVariants.{Refused, Blank, Mixed}
+use Rattle.mixing.specs.declared.Mixture.{Mixture}
 
 -- ---- a frame, and the tables lent for it
 pub record Frame : Type 0 where
@@ -91,28 +91,29 @@ unfoldable pub frame_blank : Frame → Bool
 frame_blank f = eqb (first_refusal (limited f)) 0 && blank_holds f
 
 -- ---- the answer
--- the number of each case of an answer: a refusal's own, 0 where nothing is refused
-abbrev pub frame_number : FrameAnswer → ℕ
-frame_number (Refused n) = n
-frame_number Blank = 0
-frame_number (Mixed copies picks largest contacted pair dispersion nodes depth leaves dry) = 0
-
 -- the refusal r, or x where nothing is refused
-abbrev pub refused_or : ℕ → FrameAnswer → FrameAnswer
-refused_or r x = unless_refused r x (Refused r)
+abbrev pub refused_or : ℕ → Result (Option Mixture) Refused → Result (Option Mixture) Refused
+refused_or r x = unless_refused r x (refused r)
 
 -- what Select, Close, Dispersion and Report answer: the kept copies and the picks, the three fractions of the scanned table, the
 -- dispersion, and of the tree its nodes, greatest depth, reported leaves and dry leaves
-unfoldable pub mixed_answer : Frame → FrameTables → FrameAnswer
-mixed_answer f t =
-    let fs = table_fractions (scanned (scan_input f) f.cutoff t.clusters) in
+unfoldable pub mixture : Frame → FrameTables → Mixture
+mixture f t =
     let vs = (frame_tree (tree_input f)).nodes in
-    Mixed (length (kept f)) (length (pick_numbers f)) fs.largest fs.contacted fs.pair (dispersion_of (scan_input f))
-    (length vs) (deepest vs) (reported_leaves vs) (dry_leaves vs)
+    record {
+      counted = record { copies = length (kept f); picks = length (pick_numbers f) };
+      fractions = table_fractions (scanned (scan_input f) f.cutoff t.clusters);
+      dispersion = dispersion_of (scan_input f);
+      report = record { nodes = length vs; depth = deepest vs; leaves = reported_leaves vs; dry = dry_leaves vs };
+    }
 
--- what the whole frame answers; blank stands for zeros in all four fractions
-unfoldable pub frame_answer : Frame → FrameTables → FrameAnswer
-frame_answer f t = cond (frame_blank f) Blank (refused_or (frame_refusal f t) (mixed_answer f t))
+unfoldable pub mixed_answer : Frame → FrameTables → Result (Option Mixture) Refused
+unfolding mixture
+mixed_answer f t = Ok (Some (mixture f t))
+
+-- what the whole frame answers; blank is `None`, and stands for zeros in all four fractions
+unfoldable pub frame_answer : Frame → FrameTables → Result (Option Mixture) Refused
+frame_answer f t = cond (frame_blank f) (Ok None) (refused_or (frame_refusal f t) (mixed_answer f t))
 
 -- ---- the tables afterwards
 -- Select, the scan and Report, which answered r: 0 or 13

@@ -4,5 +4,3 @@ pub mod Frame
 pub mod Calls
 -- separation both ways round, for the callers: the claim
 pub mod Mirror
--- what only contracts inside the crate cite
-pub mod Inner

@@ -4,60 +4,24 @@
 
 ghost use Rattle.std.specs.Prelude.{◌≡◌};
 ghost use Rattle.mixing.specs.Frame.{frame_of, frame_tables, frame_answer, frame_after};
-ghost use Rattle.mixing.specs.Inner.{with_report};
 
+use base::Refused;
 use cell::Cell;
 use cluster_table::ClusterFractions;
-use report::Reported;
+use report::ReportCounts;
+use selection::Counted;
 
-// What the whole frame answers: a refusal by its number, blank (zeros in all four fractions), or the answers of Select, Close,
-// Dispersion and Report.
+// What the whole frame answers where it is not blank: the answers of Select, Close, Dispersion and Report.
 #[derive(Clone, Copy)]
-pub enum FrameAnswer {
-    Refused(u32),
-    Blank,
-    Mixed {
-        copies: usize,
-        picks: usize,
-        largest: f32,
-        contacted: f32,
-        pair: f32,
-        dispersion: f32,
-        nodes: usize,
-        depth: usize,
-        leaves: usize,
-        dry: usize,
-    },
+pub struct Mixture {
+    pub counted: Counted,
+    pub fractions: ClusterFractions,
+    pub dispersion: f32,
+    pub report: ReportCounts,
 }
 
-// Report's answer as the frame's, with the copies and picks, the fractions and the dispersion.
-fn with_report(
-    copies: usize,
-    picks: usize,
-    f: ClusterFractions,
-    dispersion: f32,
-    a: Reported,
-) -> FrameAnswer
-    ensures { result ≡ with_report copies picks f dispersion a }
-{
-    match a {
-        Reported::Refused(number) => FrameAnswer::Refused(number),
-        Reported::Leaves(nodes, depth, leaves, dry) => FrameAnswer::Mixed {
-            copies: copies,
-            picks: picks,
-            largest: f.largest,
-            contacted: f.contacted,
-            pair: f.pair,
-            dispersion: dispersion,
-            nodes: nodes,
-            depth: depth,
-            leaves: leaves,
-            dry: dry,
-        },
-    }
-}
-
-// The whole frame: 1, 2, 3, 4, then blank, then 5, 6, 16, 7, 13 in this order, or every answer. Contacts are at the cutoff; `per` is the atoms per copy.
+// The whole frame: 1, 2, 3, 4, then blank (`None`, for zeros in all four fractions), then 5, 6, 16, 7, 13 in this order, or every answer. Contacts are at
+// the cutoff; `per` is the atoms per copy.
 pub fn frame(
     cell: Cell,
     cutoff: f32,
@@ -73,22 +37,19 @@ pub fn frame(
     records: &mut [u32],
     boxes: &mut [f32],
     leaves: &mut [u32],
-) -> FrameAnswer
+) -> Result<Option<Mixture>, Refused>
     ensures answer { result ≡ frame_answer (frame_of cell cutoff solutes.now per indices.now waters.now) (frame_tables starts.old picks.old clusters.old center_order.old water_order.old records.old boxes.old leaves.old) }
     ensures after { frame_tables starts.new picks.new clusters.new center_order.new water_order.new records.new boxes.new leaves.new
         ≡ frame_after (frame_of cell cutoff solutes.now per indices.now waters.now) (frame_tables starts.old picks.old clusters.old center_order.old water_order.old records.old boxes.old leaves.old) }
 {
-    let refusal = frame_limits::limit_refusal(cell, solutes, waters, indices);
-    if refusal != 0 {
-        return FrameAnswer::Refused(refusal);
-    }
+    frame_limits::limit_refusal(cell, solutes, waters, indices)?;
     // Copies, picks and finite waters are counted before the first write: blank and 5, 6, 7 go by them.
     let n = selection::count(solutes, per, indices);
     let finite = points::count_waters(waters);
     if frame_tests::is_blank(cell, solutes, waters, n.copies, finite) {
-        return FrameAnswer::Blank;
+        return Ok(None);
     }
-    let size = frame_tests::size_refusal(
+    frame_tests::size_refusal(
         n.copies,
         n.picks,
         finite,
@@ -98,20 +59,17 @@ pub fn frame(
         clusters.len(),
         center_order.len(),
         water_order.len(),
-    );
-    if size != 0 {
-        return FrameAnswer::Refused(size);
-    }
+    )?;
     // From here on only 13 refuses, and what it leaves is written by Report.
     selection::fill(solutes, per, indices, starts, picks);
     // The lent tables may be longer than the pick lists.
     let firsts = &starts[..n.copies + 1];
     let picked = &picks[..n.picks];
     scan::scan_all(cell, cutoff, solutes, firsts, picked, clusters);
-    let f = cluster_table::fractions(clusters, n.copies);
+    let fractions = cluster_table::fractions(clusters, n.copies);
     let dispersion = dispersion::dispersion_of(cell, solutes, firsts, picked);
     // Last: where it answers 13, the scan and Select have written already, as the rules have it.
-    let reported = report::report_of(
+    let report = report::report_of(
         cell,
         solutes,
         waters,
@@ -122,6 +80,11 @@ pub fn frame(
         records,
         boxes,
         leaves,
-    );
-    with_report(n.copies, n.picks, f, dispersion, reported)
+    )?;
+    Ok(Some(Mixture {
+        counted: n,
+        fractions,
+        dispersion,
+        report,
+    }))
 }

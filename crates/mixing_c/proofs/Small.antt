@@ -1,6 +1,6 @@
 -- The counts that Select, Tree, Report and the whole frame answer fit a word: within the limits copies, picks, nodes and leaves are few, and no tree is
 -- deeper than 14. Assumes nothing.
-use mathlib.Core.Path.{◌≡◌, refl, sym, subst, ap}
+use mathlib.Core.Path.{◌≡◌, refl, sym, subst}
 use mathlib.Core.Bool.{Bool, true, false, cond, ◌&&◌}
 use mathlib.Core.List.{List, [], ◌∷◌}
 use Prim.Native.Nat.{ℕ, zero, suc, ◌+◌, ◌^◌, ◌≤◌, ◌<◌}
@@ -9,28 +9,26 @@ use lib.Dec.{eqb}
 use lib.ListN.{length, get_or}
 use lib.Ieee.{Float}
 use Rattle.division.specs.Split.{max_depth}
-use Rattle.base.specs.Refusals.{first_refusal}
+use Rattle.std.proofs.Common.{Result, Ok, Err, Option, Some, None}
+use Rattle.base.specs.declared.Refused.{Refused}
+use Rattle.base.specs.Refusals.{first_refusal, refused}
 use Rattle.base.specs.Tables.{unless_refused}
-use Rattle.selection.specs.declared.Selected.TheVariants as selected
 use Rattle.selection.specs.Selection.{kept_copies, picks_of, select_refusal, select_answer, select_values}
 use Rattle.selection.proofs.SoundSelect.{select-room}
 use Rattle.bounds.specs.Bounds.{cell_box}
 use Rattle.nodes.specs.Nodes.{Node, deepest}
 use Rattle.octree.proofs.Counting.{nodes-within}
-use Rattle.tree.specs.declared.TreeAnswer.TheVariants as tree
 use Rattle.points.specs.Points.{tree_centers, tree_waters}
 use Rattle.pick_lists.specs.Input.{Input}
 use Rattle.octree.specs.Tree.{TreeTables}
 use Rattle.tree.specs.Tree.{frame_tree, test_refusals, refusal_in, whole_records, tree_refusal, tree_answer, tree_values}
 use Rattle.tree.proofs.TreeRefusals.{Tested, tested, call-tested}
-use Rattle.report.specs.declared.Reported.TheVariants as report
 use Rattle.leaf_table.specs.LeafTable.{is_reported, reported_leaves, dry_leaves}
 use Rattle.report.specs.Report.{report_room, report_refusal, answer_by, report_answer, report_values}
 use Rattle.leaf_table.proofs.LeafList.{reported-few}
 use Rattle.report.proofs.ReportOutcomes.{nodes-small}
-use Rattle.mixing.specs.declared.FrameAnswer.{FrameAnswer}
-use Rattle.mixing.specs.declared.FrameAnswer.TheVariants.{Refused, Blank, Mixed}
-use Rattle.mixing.specs.Frame.{Frame, FrameTables, kept, pick_numbers, tree_input, mixed_answer, frame_answer}
+use Rattle.mixing.specs.declared.Mixture.{Mixture}
+use Rattle.mixing.specs.Frame.{Frame, FrameTables, kept, pick_numbers, tree_input, mixture, frame_answer}
 use Rattle.mixing.proofs.Outcomes.{Passed}
 use Rattle.mixing.proofs.Tested.{room, waters-few, lists-sound}
 use Rattle.mixing.proofs.Answered.{answered}
@@ -57,7 +55,7 @@ unfolding select_answer
 select-small solutes per indices starts picks =
     let cs = kept_copies solutes per indices in
     let r = select_refusal solutes per indices starts picks in
-    small-unless select_values r (selected.Kept (length cs) (length (picks_of cs))) (selected.Refused r)
+    small-unless select_values r (Ok (record { copies = length cs; picks = length (picks_of cs) })) (refused r)
     (λ e.
     let room = select-room solutes per indices starts picks e in
     small-two (length cs) (length (picks_of cs)) (omega (arith, room.few)) (omega (arith, room.short)))
@@ -113,20 +111,20 @@ module _ (f : Input) where
     pub tree-small : Small (tree_values (tree_answer f t))
     unfolding tree_answer tree_refusal
     tree-small =
-        small-unless tree_values (tree_refusal f t) (tree.Nodes (length vs) (deepest vs)) (tree.Refused (tree_refusal f t))
+        small-unless tree_values (tree_refusal f t) (Ok (record { nodes = length vs; depth = deepest vs })) (refused (tree_refusal f t))
         (λ z. small-two (length vs) (deepest vs) (nodes-few t (whole_records t) z) (omega (arith, depth-few))) small-none
 
     pub report-small : (leaves : List ℕ) → Small (report_values (report_answer f t leaves))
     unfolding report_answer answer_by report_refusal
     report-small leaves =
-        small-unless report_values (report_refusal f t leaves) (report.Leaves (length vs) (deepest vs) (reported_leaves vs) (dry_leaves vs)) (report.Refused (report_refusal f t leaves))
+        small-unless report_values (report_refusal f t leaves) (Ok (record { nodes = length vs; depth = deepest vs; leaves = reported_leaves vs; dry = dry_leaves vs })) (refused (report_refusal f t leaves))
         (λ z. leaves-small (nodes-few t (report_room t leaves) z)) small-none
 
 -- ---- the whole frame
 module _ (f : Frame) (t : FrameTables) where
-  mixed-small : Passed f t → Small (frame_counts (mixed_answer f t))
-  unfolding mixed_answer
-  mixed-small p =
+  mixture-small : Passed f t → Small (frame_counts (Ok (Some (mixture f t))))
+  unfolding mixture
+  mixture-small p =
       let fits = room f t p in
       let four = four_counts (frame_tree (tree_input f)).nodes in
       small-more (length (kept f)) (length (pick_numbers f) ∷ four) (omega (arith, fits.few))
@@ -137,9 +135,7 @@ module _ (f : Frame) (t : FrameTables) where
   pub frame_small : Small (frame_counts (frame_answer f t))
   frame_small = by-case (frame_answer f t) refl
     where
-      by-case : (a : FrameAnswer) → a ≡ frame_answer f t → Small (frame_counts a)
-      by-case (Refused n) e = small-none
-      by-case Blank e = small-none
-      by-case (Mixed copies picks largest contacted pair dispersion nodes depth leaves dry) e =
-          let a = answered f t e in
-          subst Small (sym (ap frame_counts a.is)) (mixed-small a.passed)
+      by-case : (a : Result (Option Mixture) Refused) → a ≡ frame_answer f t → Small (frame_counts a)
+      by-case (Err e) h = small-none
+      by-case (Ok None) h = small-none
+      by-case (Ok (Some m)) h = let a = answered f t m h in subst (λ (x : Mixture). Small (frame_counts (Ok (Some x)))) (sym a.is) (mixture-small a.passed)

@@ -15,26 +15,14 @@ pub fn put_record(dst: &mut [u32], a: u32, b: u32, c: u32, d: u32, e: u32, f: u3
     requires { length dst.old ≡ 8 }
     ensures { dst.new ≡ a ∷ b ∷ c ∷ d ∷ e ∷ f ∷ g ∷ 0 ∷ [] }
 {
-    dst[0] = a;
-    dst[1] = b;
-    dst[2] = c;
-    dst[3] = d;
-    dst[4] = e;
-    dst[5] = f;
-    dst[6] = g;
-    dst[7] = 0;
+    dst.copy_from_slice(&[a, b, c, d, e, f, g, 0]);
 }
 
 fn put_box(dst: &mut [f32], b: OctreeBounds)
     requires { length dst.old ≡ 6 }
     ensures { dst.new ≡ corners_of b }
 {
-    dst[0] = b.low.x;
-    dst[1] = b.low.y;
-    dst[2] = b.low.z;
-    dst[3] = b.high.x;
-    dst[4] = b.high.y;
-    dst[5] = b.high.z;
+    dst.copy_from_slice(&[b.low.x, b.low.y, b.low.z, b.high.x, b.high.y, b.high.z]);
 }
 
 // Writes node `at`: its nc centers from number fc on, nw waters from number fw on, its children and the node after its subtree.
@@ -57,13 +45,13 @@ pub fn put_node(
 {
     put_record(
         &mut records[at * 8..at * 8 + 8],
-        base::word(depth),
-        base::word(fc),
-        base::word(nc),
-        base::word(fw),
-        base::word(nw),
-        base::word(children),
-        base::word(after),
+        depth as u32,
+        fc as u32,
+        nc as u32,
+        fw as u32,
+        nw as u32,
+        children as u32,
+        after as u32,
     );
     // Center and extent are worked out again by who reads the corners.
     put_box(&mut boxes[at * 6..at * 6 + 6], b);
@@ -74,31 +62,8 @@ pub fn count_up(s: &mut [u32])
     requires { length s.old ≤ max_atoms }
     ensures { s.new ≡ first_numbers (length s.old) }
 {
-    let mut i = 0;
-    while i < s.len() {
-        s[i] = base::word(i);
-        i += 1;
-    }
-}
-
-// Writes 0 to every entry.
-pub fn clear_words(s: &mut [u32])
-    ensures { s.new ≡ replicate (length s.old) 0 }
-{
-    let mut i = 0;
-    while i < s.len() {
-        s[i] = 0;
-        i += 1;
-    }
-}
-
-fn clear_floats(s: &mut [f32])
-    ensures { s.new ≡ replicate (length s.old) zero32 }
-{
-    let mut i = 0;
-    while i < s.len() {
-        s[i] = 0.0;
-        i += 1;
+    for (i, entry) in s.iter_mut().enumerate() {
+        *entry = i as u32;
     }
 }
 
@@ -112,6 +77,6 @@ pub fn reset(corder: &mut [u32], worder: &mut [u32], records: &mut [u32], boxes:
 {
     count_up(corder);
     count_up(worder);
-    clear_words(records);
-    clear_floats(boxes);
+    records.fill(0);
+    boxes.fill(0.0);
 }

@@ -4,7 +4,8 @@ ghost use Rattle.std.specs.Float.{binary32, binary64};
 ghost use Rattle.std.specs.Float.Ieee.Nearest.{closest};
 ghost use Rattle.floats.specs.Convert.{narrow_of};
 
-use crate::class::{NAN32, from_bits32, to_bits64};
+use crate::class::{from_bits, to_bits};
+use crate::width::Width;
 
 // The f64 that is equal to x.
 pub fn widen(x: f32) -> f64
@@ -17,7 +18,7 @@ pub fn widen(x: f32) -> f64
 pub fn widen_bits(b: u32) -> u64
     ensures { result ≡ to_bits binary64 (from_bits binary32 b) }
 {
-    to_bits64(widen(from_bits32(b)))
+    to_bits(widen(from_bits(b)))
 }
 
 // q / 2^k to the nearest whole number, a tie to the even one.
@@ -62,7 +63,7 @@ pub fn narrow_bits(b: u64) -> u32
 {
     let size = b & 0x7fff_ffff_ffff_ffff;
     if size > 0x7ff0_0000_0000_0000 {
-        return NAN32;
+        return f32::from_u64(f32::NAN_BITS);
     }
     let low = narrow_size(size);
     if b >> 63 == 0 {
@@ -75,5 +76,5 @@ pub fn narrow_bits(b: u64) -> u32
 pub fn narrow(x: f64) -> f32
     ensures { result ≡ narrow_of binary32 x }
 {
-    from_bits32(narrow_bits(to_bits64(x)))
+    from_bits(narrow_bits(to_bits(x)))
 }

@@ -1,4 +1,4 @@
-// The larger and the smaller of two floats.
+// The larger and the smaller of two floats. Of two zeros std's max and min may give either; these give the first.
 ghost use Rattle.std.specs.Prelude.{◌≡◌};
 ghost use Rattle.floats.specs.Order.{larger as larger_of, smaller as smaller_of};
 

@@ -4,7 +4,7 @@ ghost use Rattle.std.specs.Prelude.{◌≡◌, if◌then◌else◌, from_bits, t
 ghost use Rattle.std.specs.Float.{binary32};
 ghost use Rattle.floats.specs.Whole.{floor_of, round_of};
 
-use crate::class::{from_bits32, to_bits32};
+use crate::class::{from_bits, to_bits};
 use crate::order::larger;
 
 fn floor_any32(x: f32) -> f32
@@ -74,12 +74,12 @@ pub fn round32(x: f32) -> f32
 pub fn floor_bits32(b: u32) -> u32
     ensures { result ≡ to_bits binary32 (floor_of binary32 (from_bits binary32 b)) }
 {
-    to_bits32(floor32(from_bits32(b)))
+    to_bits(floor32(from_bits(b)))
 }
 
 // The bits of the f32 whose bits are b, rounded to a whole number. Every NaN gives 7FC00000.
 pub fn round_bits32(b: u32) -> u32
     ensures { result ≡ to_bits binary32 (round_of binary32 (from_bits binary32 b)) }
 {
-    to_bits32(round32(from_bits32(b)))
+    to_bits(round32(from_bits(b)))
 }

@@ -2,7 +2,7 @@
 // `arrange` tests nothing of its lists; its callers do.
 #![tactic(auto)]
 
-ghost use Rattle.std.specs.Prelude.{◌≡◌, ℕ, ◌≤◌, ◌<◌, length, take, get_or, replicate};
+ghost use Rattle.std.specs.Prelude.{◌≡◌, ℕ, ◌≤◌, ◌<◌, length, get_or, replicate};
 ghost use Rattle.base.specs.Limits.{max_atoms};
 ghost use Rattle.bounds.specs.Bounds.{above_of, octant_at};
 ghost use Rattle.octants.specs.Inner.{sum_before, lists_from, beside, Tallied, Dealable, Sortable, Arranged};
@@ -14,35 +14,22 @@ fn above(p: f32, c: f32) -> usize
     ensures is { result ≡ above_of p c }
     ensures small { result ≤ 1 }
 {
-    if p > c { 1 } else { 0 }
+    usize::from(p > c)
 }
 
 // The octant of point v about a center, or 0 where there is no such point.
+#[tactic(auto, unfolding(bounds::specs::Bounds::octant_at))]
 fn octant(points: &[f32], center: Vec3, v: u32) -> usize
-    ensures { result ≡ octant_at points.now center v }
+    ensures is { result ≡ octant_at points.now center v }
+    ensures small { result < 8 }
 {
-    let i = (v as usize) * 3;
-    if i + 2 < points.len() {
-        above(points[i], center.x)
-            + 2 * above(points[i + 1], center.y)
-            + 4 * above(points[i + 2], center.z)
+    let v = v as usize;
+    if v * 3 + 2 < points.len() {
+        let p = cell::point(points, v);
+        above(p.x, center.x) + 2 * above(p.y, center.y) + 4 * above(p.z, center.z)
     } else {
         0
     }
-}
-
-// An octant as a byte of a table, and back.
-fn byte(o: usize) -> u8
-    requires { o < 8 }
-    ensures { result ≡ o }
-{
-    o as u8
-}
-
-fn wide(code: u8) -> usize
-    ensures { result ≡ code }
-{
-    code as usize
 }
 
 // Notes the octant of each point of `order`, and adds up how many points each octant has.
@@ -50,41 +37,25 @@ fn tally(order: &[u32], points: &[f32], center: Vec3, codes: &mut [u8], counts: 
     requires { (length order.now ≤ length codes.old) × (counts.old ≡ replicate 8 0) }
     ensures { Tallied points.now center order.now codes.new counts.new }
 {
-    let mut i = 0;
-    while i < order.len() {
-        let o = octant(points, center, order[i]);
-        codes[i] = byte(o);
+    for (i, v) in order.iter().enumerate() {
+        let o = octant(points, center, *v);
+        codes[i] = o as u8;
         counts[o] += 1;
-        i += 1;
     }
 }
 
 // The first place of each octant, where they follow each other by rising octant.
-fn firsts(counts: &[usize; 8], places: &mut [usize; 8])
-    requires { (sum_before (λ o. get_or counts.now o 0) 8 ≤ max_atoms) × (length places.old ≡ 8) }
-    ensures eight { length places.new ≡ 8 }
-    ensures sums { (o : ℕ) → o < 8 → get_or places.new o 0 ≡ sum_before (λ k. get_or counts.now k 0) o }
+fn firsts(counts: &[usize; 8]) -> [usize; 8]
+    requires { sum_before (λ o. get_or counts.now o 0) 8 ≤ max_atoms }
+    ensures { (o : ℕ) → o < 8 → get_or result o 0 ≡ sum_before (λ k. get_or counts.now k 0) o }
 {
+    let mut places = [0; 8];
     let mut at = 0;
-    let mut left = 8;
-    while 0 < left {
-        let o = 8 - left;
-        left -= 1;
+    for o in 0..8 {
         places[o] = at;
         at += counts[o];
     }
-}
-
-// Copies src to the front of dst.
-fn paste(dst: &mut [u32], src: &[u32])
-    requires { length src.now ≤ length dst.old }
-    ensures { take (length src.now) dst.new ≡ src.now }
-{
-    let mut j = 0;
-    while j < src.len() {
-        dst[j] = src[j];
-        j += 1;
-    }
+    places
 }
 
 // Puts each saved point, in their order, at the next place of its octant.
@@ -92,15 +63,10 @@ fn deal(saved: &[u32], codes: &[u8], places: &mut [usize; 8], order: &mut [u32])
     requires { Dealable codes.now saved.now (length order.old) places.old }
     ensures { order.new ≡ lists_from (beside codes.now saved.now (length order.old)) 8 }
 {
-    let n = order.len();
-    let mut left = n;
-    while 0 < left {
-        let i = n - left;
-        left -= 1;
-        let o = wide(codes[i]);
-        let at = places[o];
-        order[at] = saved[i];
-        places[o] = at + 1;
+    for i in 0..order.len() {
+        let o = codes[i] as usize;
+        order[places[o]] = saved[i];
+        places[o] += 1;
     }
 }
 
@@ -116,9 +82,9 @@ pub fn arrange(
     requires { Sortable order.old counts.old (length scratch.old) (length codes.old) }
     ensures { Arranged points.now center order.old order.new counts.new }
 {
-    paste(scratch, order);
+    let saved = &mut scratch[..order.len()];
+    saved.copy_from_slice(order);
     tally(order, points, center, codes, counts);
-    let mut places = [0usize; 8];
-    firsts(counts, &mut places);
-    deal(scratch, codes, &mut places, order);
+    let mut places = firsts(counts);
+    deal(saved, codes, &mut places, order);
 }

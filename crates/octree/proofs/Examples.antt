@@ -7,7 +7,7 @@ use lib.ListN.{take, drop}
 use lib.Ieee.{Float, binary32, of_bits, of_fields, odd, units, round, span, climb, size, sum, add, sub, mul, neg, lt}
 use Rattle.cell.specs.Cell.{point_at}
 use Rattle.cell.specs.declared.Vec3.{Vec3}
-use Rattle.octree.specs.declared.Built.TheVariants.{Nodes, Full}
+use Rattle.std.specs.Prelude.{Some, None}
 use Rattle.bounds.specs.Bounds.{cell_box, child_of, wide_box, octant_at}
 use Rattle.octants.specs.Octants.{passing}
 use Rattle.octree.specs.Tree.{Subtrees, where_some, children_from, subtree, tree_of}
@@ -43,8 +43,8 @@ words d fc nc fw nw kids after rest = d ∷ fc ∷ nc ∷ fw ∷ nw ∷ kids ∷
 
 pub record Listed : Type 0 where
   -- six nodes and depth 3 where there is room for six; 13 where there is not
-  pub answer : built_answer 6 frame ≡ Nodes 6 3
-  pub refused : built_answer 5 frame ≡ Full
+  pub answer : built_answer 6 frame ≡ Some (record { nodes = 6; depth = 3 })
+  pub refused : built_answer 5 frame ≡ None
   pub records : records_of frame.nodes
       ≡ words 0 0 2 0 1 1 6 (words 1 0 2 0 1 2 6 (words 2 0 2 0 0 2 5 (words 3 0 1 0 0 0 4 (words 3 1 1 0 0 0 5 (words 2 2 0 0 1 0 6 [])))))
   -- the boxes of nodes 3 and 4: a coordinate that is the center's goes low

@@ -6,9 +6,10 @@ use native.Mathlib.Nat.{add-zero}
 use native.Mathlib.Omega.{arith}
 use lib.ListN.{length, get_or, length-append}
 use lib.Ieee.{Float}
+use Rattle.std.specs.Prelude.{Option}
 use Rattle.base.specs.Tables.{placed}
 use Rattle.bounds.specs.declared.OctreeBounds.{OctreeBounds}
-use Rattle.octree.specs.declared.Built.{Built}
+use Rattle.octree.specs.declared.TreeSize.{TreeSize}
 use Rattle.bounds.specs.Bounds.{child_of}
 use Rattle.octants.specs.Octants.{octant_points}
 use Rattle.octree.specs.Tree.{Subtrees, Builder, none, join, where_some, children_from}
@@ -16,7 +17,7 @@ use Rattle.nodes.specs.Nodes.{deepest, records_of, boxes_of}
 use Rattle.octants.specs.Inner.{lists_from, by_octant}
 use Rattle.division.specs.Inner.{unsplit, Divided}
 use Rattle.octree.specs.Inner.{Filled}
-use Rattle.octree.proofs.Stretches.{Next, stretch, stretch_put, child-order, child-length}
+use Rattle.octree.proofs.Stretches.{Next, stretch, stretch_put, child-within, child-order, child-length}
 use Rattle.base.proofs.Placing.{placed-none, placed-next}
 use Rattle.nodes.proofs.NodeTables.{records-append, boxes-append, records-length, boxes-length, deepest-append}
 use Rattle.octree.proofs.Children.{below, join-none, join-assoc, no-points, some-points}
@@ -89,11 +90,12 @@ pub record Growing (S : Site) (T : Turn) : Type 0 where
   pub within : T.next ≤ S.room
 
 -- ---- the first turn
-pub begin : (S : Site) (cs ws : List ℕ) → S.at + 1 ≤ S.room → cs ≡ later_c S S.turns → ws ≡ later_w S S.turns
-    → Growing S (record { left = S.turns; next = S.at + 1; deep = S.depth; kids = 0; ca = 0; wa = 0; cs = cs; ws = ws; rec = S.rec₀; box = S.box₀ })
+pub begin : (S : Site) (left : ℕ) (cs ws : List ℕ) → left ≡ S.turns → S.at + 1 ≤ S.room → cs ≡ later_c S S.turns → ws ≡ later_w S S.turns
+    → Growing S (record { left = left; next = S.at + 1; deep = S.depth; kids = 0; ca = 0; wa = 0; cs = cs; ws = ws; rec = S.rec₀; box = S.box₀ })
 unfolding records_of boxes_of deepest
-begin S cs ws h p q =
-    record {
+begin S left cs ws e h p q =
+    rw e
+    (record {
       done = none [] [];
       total = join-none _ ∙ simp add-zero;
       order-c = p;
@@ -106,7 +108,7 @@ begin S cs ws h p q =
       table = sym (placed-none ((S.at + 1) * 8) S.rec₀);
       corners = sym (placed-none ((S.at + 1) * 6) S.box₀);
       within = h;
-    }
+    })
 
 -- ---- one octant
 -- at its turn octant o has nc centers and nw waters; l octants are left
@@ -117,14 +119,14 @@ pub record Visited (S : Site) (T : Turn) (l o nc nw : ℕ) : Type 0 where
   pub count-w : nw ≡ length (here_w S o)
 
 -- from what `divide` left of the lists and of the counts
-pub visited : {S : Site} {T : Turn} {cs ws nc nw : List ℕ} → Growing S T → Divided S.C S.b.center S.turns S.cs₀ cs nc → Divided S.W S.b.center S.turns S.ws₀ ws nw
-    → 0 < T.left → T.kids + T.left ≤ 8 → T.left ≤ S.turns → Visited S T (T.left - 1) (8 - T.left) (get_or nc (8 - T.left) 0) (get_or nw (8 - T.left) 0)
-visited {T = T} z c w h k l =
+pub visited : {S : Site} {T : Turn} {cs ws nc nw : List ℕ} → Divided S.C S.b.center S.turns S.cs₀ cs nc → Divided S.W S.b.center S.turns S.ws₀ ws nw
+    → (o : ℕ) → o < 8 → 0 < S.turns → T.left ≡ 8 - o → Visited S T (8 - (o + 1)) o (get_or nc o 0) (get_or nw o 0)
+visited c w o h t e =
     record {
       one_less = omega arith;
       octant-is = omega arith;
-      count-c = c.count (omega arith) (8 - T.left) (omega arith);
-      count-w = w.count (omega arith) (8 - T.left) (omega arith);
+      count-c = c.count t o h;
+      count-w = w.count t o h;
     }
 
 lists-next : (f : ℕ → List ℕ) (left l o : ℕ) (t : List ℕ) → left ≡ suc l → o ≡ 7 - l → lists_from f left ++ t ≡ f o ++ (lists_from f l ++ t)
@@ -186,6 +188,9 @@ module _ {S : Site} {T : Turn} (z : Growing S T) {l o nc nw : ℕ} (v : Visited 
         count = v.count-w;
       }
 
+  pub both-within : (T.ca + nc ≤ length T.cs) × (T.wa + nw ≤ length T.ws)
+  both-within = (child-within next-c, child-within next-w)
+
   pub step-empty : nc + nw ≡ 0
       → Growing S (record { left = l; next = T.next; deep = T.deep; kids = T.kids; ca = T.ca; wa = T.wa; cs = T.cs; ws = T.ws; rec = T.rec; box = T.box })
   step-empty h =
@@ -224,7 +229,7 @@ module _ {S : Site} {T : Turn} (z : Growing S T) {l o nc nw : ℕ} (v : Visited 
         omega (arith, t, length-append z.done.nodes (N ++ R.nodes), length-append N R.nodes, z.count)
 
     -- the child answered r, and left zc, zw, rec' and box'
-    pub step-child : {r : Built} {zc zw rec' : List ℕ} {box' : List Float} (n d : ℕ)
+    pub step-child : {r : Option TreeSize} {zc zw rec' : List ℕ} {box' : List Float} (n d : ℕ)
         → Filled (child_tree S T o) T.next r zc zw T.rec rec' T.box box' → n ≡ T.next + length (child_tree S T o).nodes
         → d ≡ max T.deep (deepest (child_tree S T o).nodes) → n ≤ S.room → (child_tree S T o).roots ≡ 1
         → S.room * 8 ≤ length S.rec₀ → S.room * 6 ≤ length S.box₀

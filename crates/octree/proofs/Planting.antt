@@ -1,5 +1,5 @@
 -- The end of the octant loop of `build`, with the node's own record and box; and what an answer tells. Assumes nothing.
-use mathlib.Core.Path.{◌≡◌, refl, sym, ap, subst, ◌∙◌}
+use mathlib.Core.Path.{◌≡◌, refl, sym, ap, ap₂, subst, ◌∙◌}
 use mathlib.Core.Logic.{inl, inr}
 use mathlib.Core.List.{List, [], ◌∷◌, ◌++◌, append-nil}
 use Prim.Native.Nat.{ℕ, suc, ◌+◌, ◌*◌, ◌≤◌, ◌<◌, max}
@@ -7,10 +7,11 @@ use native.Mathlib.Nat.{add-zero}
 use native.Mathlib.Omega.{arith}
 use lib.ListN.{length}
 use lib.Ieee.{Float}
+use Rattle.std.specs.Prelude.{Option, Some, None}
 use Rattle.base.specs.Tables.{placed}
 use Rattle.bounds.specs.declared.OctreeBounds.{OctreeBounds}
 use Rattle.bounds.specs.Bounds.{child_of}
-use Rattle.octree.specs.declared.Built.{Built}
+use Rattle.octree.specs.declared.TreeSize.{TreeSize}
 use Rattle.nodes.specs.Nodes.{Node, deepest, corners_of, records_of, boxes_of}
 use Rattle.octree.specs.Tree.{Subtrees, none, join, children_from, rooted}
 use Rattle.octants.specs.Inner.{lists_from}
@@ -60,14 +61,14 @@ module _ (S : Site) (T : Turn) (z : Growing S T) (no-turn : T.left ≡ 0) (rr : 
   pub finish : (nc nw : ℕ) (rec' : List ℕ) (box' : List Float) → nc ≡ length S.cs₀ → nw ≡ length S.ws₀
       → rec' ≡ placed (S.at * 8) (S.depth ∷ S.fc ∷ nc ∷ S.fw ∷ nw ∷ T.kids ∷ T.next ∷ 0 ∷ []) T.rec
       → box' ≡ placed (S.at * 6) (corners_of S.b) T.box
-      → Planted S.room (rooted S.depth S.at S.fc S.fw S.b S.cs₀ S.ws₀ (whole_of S)) S.at (Built.Nodes T.next T.deep)
+      → Planted S.room (rooted S.depth S.at S.fc S.fw S.b S.cs₀ S.ws₀ (whole_of S)) S.at (Some (record { nodes = T.next; depth = T.deep }))
       T.cs T.ws S.rec₀ rec' S.box₀ box'
   unfolding records_of boxes_of deepest
   finish nc nw rec' box' p q u v =
       inl (
         omega (arith, next-is, z.within),
         record {
-          answer = ap (λ (y : ℕ). Built.Nodes y T.deep) all-next ∙ ap (Built.Nodes (S.at + suc (length (whole_of S).nodes))) deep_is;
+          answer = ap₂ (λ (n d : ℕ). Some (record { nodes = n; depth = d })) all-next deep_is;
           order-c = (rw no-turn at z.order-c) ∙ ap (λ (g : Subtrees). g.center_order) last;
           order-w = (rw no-turn at z.order-w) ∙ ap (λ (g : Subtrees). g.water_order) last;
           table = u ∙ ap (λ (y : List ℕ). placed (S.at * 8) y T.rec) (eight refl refl p refl q roots-are next-is) ∙ table_is;
@@ -76,21 +77,23 @@ module _ (S : Site) (T : Turn) (z : Growing S T) (no-turn : T.left ≡ 0) (rr : 
       )
 
 -- ---- what an answer tells
-module _ (room : ℕ) (g : Subtrees) (at : ℕ) (r : Built) (cs ws rec₀ rec : List ℕ) (box₀ box : List Float) where
-  pub full-of : Planted room g at r cs ws rec₀ rec box₀ box → r ≡ Built.Full → room < at + length g.nodes
-  full-of (inl (h, f)) e = let z : ◌≡◌ {A = ℕ} 0 1 = cc (f.answer, e) in absurd (omega arith)
+module _ (room : ℕ) (g : Subtrees) (at : ℕ) (r : Option TreeSize) (cs ws rec₀ rec : List ℕ) (box₀ box : List Float) where
+  pub full-of : Planted room g at r cs ws rec₀ rec box₀ box → r ≡ None → room < at + length g.nodes
+  full-of (inl (h, f)) e = cc (f.answer, e)
   full-of (inr (h, f)) e = h
 
-  pub filled_of : Planted room g at r cs ws rec₀ rec box₀ box → (n d : ℕ) → r ≡ Built.Nodes n d
-      → (at + length g.nodes ≤ room) × Filled g at r cs ws rec₀ rec box₀ box × (n ≡ at + length g.nodes) × (d ≡ deepest g.nodes)
-  filled_of (inl (h, f)) n d e = (h, f, cc (f.answer, e), cc (f.answer, e))
-  filled_of (inr (h, f)) n d e = let z : ◌≡◌ {A = ℕ} 0 1 = cc (f, e) in absurd (omega arith)
+  pub filled_of : Planted room g at r cs ws rec₀ rec box₀ box → (s : TreeSize) → r ≡ Some s
+      → (at + length g.nodes ≤ room) × Filled g at r cs ws rec₀ rec box₀ box × (s.nodes ≡ at + length g.nodes) × (s.depth ≡ deepest g.nodes)
+  filled_of (inl (h, f)) s e =
+      let q : s ≡ record { nodes = at + length g.nodes; depth = deepest g.nodes } = cc (f.answer, e) in
+      (h, f, ap (λ (u : TreeSize). u.nodes) q, ap (λ (u : TreeSize). u.depth) q)
+  filled_of (inr (h, f)) s e = cc (f, e)
 
   pub planted-at : (g' : Subtrees) → g ≡ g' → Planted room g at r cs ws rec₀ rec box₀ box → Planted room g' at r cs ws rec₀ rec box₀ box
   planted-at g' e p = subst (λ (u : Subtrees). Planted room u at r cs ws rec₀ rec box₀ box) e p
 
 -- of the subtree of an octant, where the child was asked for the box b' and for its stretches of the order lists
-pub planted : {S : Site} {T : Turn} (z : Growing S T) {l o nc nw : ℕ} (v : Visited S T l o nc nw) {r : Built} {zc zw rec' : List ℕ} {box' : List Float} {b' : OctreeBounds}
+pub planted : {S : Site} {T : Turn} (z : Growing S T) {l o nc nw : ℕ} (v : Visited S T l o nc nw) {r : Option TreeSize} {zc zw rec' : List ℕ} {box' : List Float} {b' : OctreeBounds}
     → b' ≡ child_of S.b o
     → Planted S.room (S.go T.next (S.fc + T.ca) (S.fw + T.wa) b' (stretch T.ca nc T.cs) (stretch T.wa nw T.ws)) T.next r zc zw T.rec rec' T.box box'
     → Planted S.room (child_tree S T o) T.next r zc zw T.rec rec' T.box box'

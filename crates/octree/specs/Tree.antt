@@ -8,7 +8,8 @@ use Rattle.bounds.specs.declared.OctreeBounds.{OctreeBounds}
 use Rattle.bounds.specs.Bounds.{child_of}
 use Rattle.octants.specs.Octants.{octant_points}
 use Rattle.division.specs.Split.{max_depth, splits}
-use Rattle.nodes.specs.Nodes.{Node, records_of, boxes_of}
+use Rattle.nodes.specs.Nodes.{Node, deepest, records_of, boxes_of}
+use Rattle.octree.specs.declared.TreeSize.{TreeSize}
 
 -- ---- subtrees
 -- side by side: how many, their nodes in preorder, and the order lists as they arrange them
@@ -86,6 +87,10 @@ point_numbers points = first_numbers (length points / 3)
 -- the tree of a box with centers C and waters W
 unfoldable pub tree_of : OctreeBounds → List Float → List Float → Subtrees
 tree_of b C W = where_some (subtree C W max_depth) 0 0 0 b (point_numbers C) (point_numbers W)
+
+-- the number of nodes, and the greatest depth
+abbrev pub size_of : List Node → TreeSize
+size_of vs = record { nodes = length vs; depth = deepest vs }
 
 -- 13 where the nodes exceed the room
 abbrev pub room_refusal : ℕ → Subtrees → Refusal

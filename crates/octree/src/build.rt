@@ -4,13 +4,14 @@ ghost use Rattle.division.specs.Split.{max_depth};
 ghost use Rattle.octree.specs.Tree.{subtree};
 ghost use Rattle.octree.specs.Inner.{Ready, Planted};
 
-use crate::Built;
+use crate::TreeSize;
 use bounds::OctreeBounds;
 use division::divide;
 use nodes::put_node;
 
 // Builds the subtree of a box. Its centers and waters are the two order lists, whose first entries are number fc and fw of the whole.
-// Its nodes are numbered from `at` on, and there is room for `room` in all. Answers the number after its nodes and the greatest depth.
+// Its nodes are numbered from `at` on, and there is room for `room` in all. Answers the number
+// after its nodes, as the nodes up to there, and its greatest depth; None where the node tables are too small (13).
 pub fn build(
     b: OctreeBounds,
     depth: usize,
@@ -26,14 +27,14 @@ pub fn build(
     room: usize,
     scratch: &mut [u32],
     codes: &mut [u8],
-) -> Built
+) -> Option<TreeSize>
     requires { Ready depth (length corder.old) (length worder.old) fc fw (length records.old) (length boxes.old) room (length scratch.old) (length codes.old) }
     ensures { Planted room (subtree centers.now waters.now (max_depth - depth) at fc fw b corder.old worder.old) at result
         corder.new worder.new records.old records.new boxes.old boxes.new }
 {
     // The node itself has no record left.
     if at >= room {
-        return Built::Full;
+        return None;
     }
     let mut next = at + 1;
     let mut deep = depth;
@@ -42,7 +43,7 @@ pub fn build(
     let mut wa = 0;
     let mut ccounts = [0usize; 8]; // centers of each octant, and waters
     let mut wcounts = [0usize; 8];
-    let mut left = divide(
+    let left = divide(
         depth,
         b,
         centers,
@@ -55,9 +56,7 @@ pub fn build(
         codes,
     );
     // Octants by rising number, the last `left` of them; none where the node does not split.
-    while 0 < left {
-        let o = 8 - left;
-        left -= 1;
+    for o in 8 - left..8 {
         let nc = ccounts[o];
         let nw = wcounts[o];
         // An octant without points gets no node.
@@ -66,7 +65,7 @@ pub fn build(
         }
         let ce = ca + nc;
         let we = wa + nw;
-        let Built::Nodes(n, d) = build(
+        let child = build(
             b.child(o),
             depth + 1,
             centers,
@@ -81,14 +80,12 @@ pub fn build(
             room,
             scratch,
             codes,
-        ) else {
-            return Built::Full;
-        };
+        )?;
         ca = ce;
         wa = we;
-        next = n;
+        next = child.nodes;
         children += 1;
-        deep = base::max(deep, d);
+        deep = deep.max(child.depth);
     }
     // The record is written last: only now the children and the node after them are known.
     put_node(
@@ -104,5 +101,8 @@ pub fn build(
         next,
         b,
     );
-    Built::Nodes(next, deep)
+    Some(TreeSize {
+        nodes: next,
+        depth: deep,
+    })
 }

@@ -4,9 +4,9 @@
 
 pub mod build;
 
-// What building answers: the number of nodes and the greatest depth, or that the node tables are too small (13).
+// How large a tree is: the number of its nodes, and the greatest depth.
 #[derive(Clone, Copy)]
-pub enum Built {
-    Nodes(usize, usize),
-    Full,
+pub struct TreeSize {
+    pub nodes: usize,
+    pub depth: usize,
 }

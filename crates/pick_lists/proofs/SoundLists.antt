@@ -1,5 +1,5 @@
 -- Sound pick lists: their tests, an element at a time, and what lists that pass them have. Assumes nothing.
-use mathlib.Core.Path.{◌≡◌, refl, subst}
+use mathlib.Core.Path.{◌≡◌, refl, ap₂, ◌∙◌}
 use mathlib.Core.Bool.{Bool, true, false, false≢true, ◌&&◌, ◌||◌, and_assoc, and-eq-true_iff}
 use mathlib.Core.List.{List, [], ◌∷◌}
 use Prim.Native.Nat.{ℕ, zero, suc, ◌+◌, ◌-◌, ◌*◌, ◌/◌, ◌≤◌, ◌<◌, zero-le, suc-le-suc}
@@ -8,8 +8,7 @@ use native.Mathlib.Decide.{dec_lt}
 use native.Mathlib.Numerals.{add-one}
 use native.Mathlib.Omega.{arith}
 use lib.Dec.{ltb, leb, eqb}
-use lib.ListN.{length, get_or, drop, length-drop, drop_of_length-le}
-use lib.Seq.{drop-cons}
+use lib.ListN.{length, get_or, take, drop}
 use lib.Ieee.{Float, nan}
 use lib.Ieee.Scale.{finite}
 use borrow.Author.Tests.{lt-ltb, le-ltb, ltb-true, ltb-false, lt-leb, le-leb, leb-true, eq-eqb, eqb-true, eqb-false}
@@ -17,54 +16,30 @@ use Rattle.floats.proofs.Tests.{both}
 use Rattle.cell.specs.Cell.{point_at, finite_point}
 use Rattle.base.specs.Limits.{max_copies, max_picks}
 use Rattle.base.proofs.Tests.{neither}
+use Rattle.std.specs.List.{list_all}
+use Rattle.std.proofs.lemmas.List.Recursion.{and_at}
 use Rattle.pick_lists.specs.Sound.{finite_atom, rises, all_finite, copies, sound_starts, sound_lists}
 use Rattle.pick_lists.specs.Inner.{finite_coordinates}
 
 -- ---- the starts rise: what is left from a start on decides
-rises_next : (l : List ℕ) (k : ℕ) → suc k < length l → rises (drop k l) ≡ (ltb (get_or l k 0) (get_or l (suc k) 0) && rises (drop (suc k) l))
-unfolding rises
-rises_next [] k h = absurd (omega arith)
-rises_next (a ∷ []) k h = absurd (omega arith)
-rises_next (a ∷ b ∷ l) zero h = refl
-rises_next (a ∷ b ∷ l) (suc k) h = rises_next (b ∷ l) k (le_of_suc-le-suc h)
-
-rises-more : (l : List ℕ) (i : ℕ) → 0 < i → i < length l → rises (drop (i - 1) l) ≡ (ltb (get_or l (i - 1) 0) (get_or l i 0) && rises (drop i l))
-rises-more l i p h =
-    let e : suc (i - 1) ≡ i = omega arith in
-    subst (λ (m : ℕ). rises (drop (i - 1) l) ≡ (ltb (get_or l (i - 1) 0) (get_or l m 0) && rises (drop m l))) e (rises_next l (i - 1) (omega arith))
-
 -- the next test goes to what was found before it
-pub rises-step : (l : List ℕ) (i : ℕ) (all : Bool) → 0 < i → i < length l → ((all && ltb (get_or l (i - 1) 0) (get_or l i 0)) && rises (drop (i + 1 - 1) l)) ≡ (all && rises (drop (i - 1) l))
-rises-step l i all p h =
-    let e : i + 1 - 1 ≡ i = omega arith in
-    rw (rises-more l i p h, e) (and_assoc all (ltb (get_or l (i - 1) 0) (get_or l i 0)) (rises (drop i l)))
+pub rises-step : (l : List ℕ) (all : Bool) → 2 ≤ length l → ((all && ltb (get_or (take 2 l) 0 0) (get_or (take 2 l) 1 0)) && rises (drop 1 l)) ≡ (all && rises l)
+unfolding rises
+rises-step [] all h = absurd (omega arith)
+rises-step (a ∷ []) all h = absurd (omega arith)
+rises-step (a ∷ b ∷ l) all h = and_assoc all (ltb a b) (rises (b ∷ l))
 
 -- at most one number rises
-rises-short : (l : List ℕ) → length l ≤ 1 → rises l ≡ true
+pub rises-short : (l : List ℕ) → length l < 2 → rises l ≡ true
 unfolding rises
 rises-short [] h = refl
 rises-short (a ∷ []) h = refl
 rises-short (a ∷ b ∷ l) h = absurd (omega arith)
 
-pub rises-none : (l : List ℕ) (i : ℕ) → length l ≤ i → rises (drop (i - 1) l) ≡ true
-rises-none l i h = rises-short (drop (i - 1) l) (simp length-drop (omega arith))
-
--- ---- every coordinate is finite: what is left from one on decides
-pub coordinates-step : (xs : List Float) (i : ℕ) (all : Bool) → i < length xs → ((all && finite (get_or xs i nan)) && finite_coordinates (drop (i + 1) xs)) ≡ (all && finite_coordinates (drop i xs))
-unfolding finite_coordinates
-coordinates-step xs i all h = rw (add-one, drop-cons xs i nan) (and_assoc all (finite (get_or xs i nan)) (finite_coordinates (drop (suc i) xs)))
-
-pub coordinates-none : (xs : List Float) (i : ℕ) → length xs ≤ i → finite_coordinates (drop i xs) ≡ true
-unfolding finite_coordinates
-coordinates-none xs i h = rw drop_of_length-le
-
+-- ---- each pick names a finite atom
 coordinate-at : (xs : List Float) → finite_coordinates xs ≡ true → (k : ℕ) → k < length xs → finite (get_or xs k nan) ≡ true
-unfolding finite_coordinates
-coordinate-at [] f k h = absurd (omega arith)
-coordinate-at (x ∷ xs) f zero h = (both (finite x) (finite_coordinates xs) f).0
-coordinate-at (x ∷ xs) f (suc k) h = coordinate-at xs (both (finite x) (finite_coordinates xs) f).1 k (le_of_suc-le-suc h)
+coordinate-at xs f k h = and_at (list_all finite) finite refl (λ _ _. refl) xs k nan h f
 
--- ---- each pick names a finite atom: what is left from a pick on decides
 -- an atom is there where its last coordinate is
 atom-within : (n p : ℕ) → ltb (p * 3 + 2) n ≡ ltb p (n / 3)
 atom-within n p = go (dec_lt (p * 3 + 2) n)
@@ -77,31 +52,24 @@ atom-within n p = go (dec_lt (p * 3 + 2) n)
 abbrev pub names_finite : List Float → ℕ → Bool
 names_finite xs p = ltb p (length xs / 3) && finite_atom xs (0 + p)
 
-finite-more : (xs : List Float) (ps : List ℕ) (j : ℕ) → j < length ps → all_finite xs (drop j ps) ≡ (names_finite xs (get_or ps j 0) && all_finite xs (drop (j + 1) ps))
+pub all-names : (xs : List Float) (ps : List ℕ) → list_all (names_finite xs) ps ≡ all_finite xs ps
 unfolding all_finite
-finite-more xs ps j h = rw (add-one, drop-cons ps j 0, atom-within (length xs) (get_or ps j 0), zero-add)
-
-pub finite-hit : (xs : List Float) (ps : List ℕ) (j : ℕ) → j < length ps → names_finite xs (get_or ps j 0) ≡ false → all_finite xs (drop j ps) ≡ false
-finite-hit xs ps j h e = rw (finite-more xs ps j h, e)
-
-pub finite-skip : (xs : List Float) (ps : List ℕ) (j : ℕ) → j < length ps → names_finite xs (get_or ps j 0) ≡ true → all_finite xs (drop (j + 1) ps) ≡ all_finite xs (drop j ps)
-finite-skip xs ps j h e = rw (finite-more xs ps j h, e)
-
-pub finite-none : (xs : List Float) (ps : List ℕ) (j : ℕ) → length ps ≤ j → all_finite xs (drop j ps) ≡ true
-unfolding all_finite
-finite-none xs ps j h = rw drop_of_length-le
+all-names xs [] = refl
+all-names xs (p ∷ ps) = rw (atom-within (length xs) p, zero-add, all-names xs ps)
 
 -- where every coordinate is finite, a pick that names an atom names a finite one
-named : (xs : List Float) (p : ℕ) → finite_coordinates xs ≡ true → names_finite xs p ≡ ltb p (length xs / 3)
+named : (xs : List Float) (p : ℕ) → finite_coordinates xs ≡ true → ltb p (length xs / 3) ≡ names_finite xs p
 unfolding finite_atom finite_point point_at
 named xs p f = go (dec_lt p (length xs / 3))
   where
-    go : Dec (p < length xs / 3) → names_finite xs p ≡ ltb p (length xs / 3)
+    go : Dec (p < length xs / 3) → ltb p (length xs / 3) ≡ names_finite xs p
     go (yes l) = rw (lt-ltb p (length xs / 3) l, zero-add, coordinate-at xs f (p * 3) (omega arith), coordinate-at xs f (p * 3 + 1) (omega arith), coordinate-at xs f (p * 3 + 2) (omega arith))
     go (no m) = rw (le-ltb p (length xs / 3) (omega arith))
 
-pub named_step : (xs : List Float) (ps : List ℕ) (j : ℕ) (all : Bool) → finite_coordinates xs ≡ true → j < length ps → ((all && ltb (get_or ps j 0) (length xs / 3)) && all_finite xs (drop (j + 1) ps)) ≡ (all && all_finite xs (drop j ps))
-named_step xs ps j all f h = rw (finite-more xs ps j h, named xs (get_or ps j 0) f) (and_assoc all (ltb (get_or ps j 0) (length xs / 3)) (all_finite xs (drop (j + 1) ps)))
+pub all-named : (xs : List Float) (ps : List ℕ) → finite_coordinates xs ≡ true → list_all (λ p. ltb p (length xs / 3)) ps ≡ all_finite xs ps
+unfolding all_finite
+all-named xs [] f = refl
+all-named xs (p ∷ ps) f = ap₂ ◌&&◌ (named xs p f ∙ rw (atom-within (length xs) p, zero-add)) (all-named xs ps f)
 
 -- ---- the starts' number: outside 1 .. 4,097 they are not sound, and inside the other tests decide
 pub starts-outside : (starts : List ℕ) (n : ℕ) → (eqb (length starts) 0 || ltb (max_copies + 1) (length starts)) ≡ true → sound_starts starts n ≡ false

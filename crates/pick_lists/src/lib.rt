@@ -3,12 +3,12 @@
 #![tactic(auto)]
 
 ghost use Rattle.std.specs.Prelude.{◌≡◌, true, ◌&&◌, ◌+◌, ◌*◌, ◌/◌, ◌≤◌, ◌<◌, ltb, length, get_or};
-ghost use Rattle.base.specs.Refusals.{first_refusal};
+ghost use Rattle.base.specs.Refusals.{first_refusal, answer_of};
 ghost use Rattle.pick_lists.specs.Sound.{finite_atom, rises as rises_of, all_finite, pick_list, sound_starts, sound_lists};
 ghost use Rattle.pick_lists.specs.Inner.{finite_coordinates};
 ghost use Rattle.pick_lists.specs.Input.{given, input_refusals};
 
-use base::{MAX_ATOMS, MAX_COPIES, MAX_PICKS};
+use base::{MAX_ATOMS, MAX_COPIES, MAX_PICKS, Refused};
 use cell::Cell;
 
 // Whether solute atom k is finite.
@@ -35,10 +35,8 @@ fn rises(starts: &[u32]) -> bool
     ensures { result ≡ rises_of starts.now }
 {
     let mut all = true;
-    let mut i: usize = 1;
-    while i < starts.len() {
-        all = all & (starts[i - 1] < starts[i]);
-        i += 1;
+    for &[a, b] in starts.array_windows::<2>() {
+        all = all & (a < b);
     }
     all
 }
@@ -48,10 +46,8 @@ fn coordinates_finite(xs: &[f32]) -> bool
     ensures { result ≡ finite_coordinates xs.now }
 {
     let mut all = true;
-    let mut i = 0;
-    while i < xs.len() {
-        all = all & numbers::class::is_finite32(xs[i]);
-        i += 1;
+    for &x in xs {
+        all = all & numbers::class::is_finite32(x);
     }
     all
 }
@@ -63,25 +59,21 @@ fn all_named(xs: &[f32], picks: &[u32], atoms: u32) -> bool
     ensures { result ≡ all_finite xs.now picks.now }
 {
     let mut all = true;
-    let mut j = 0;
-    while j < picks.len() {
-        all = all & (picks[j] < atoms);
-        j += 1;
+    for &p in picks {
+        all = all & (p < atoms);
     }
     all
 }
 
-// Whether each pick names a finite atom, an atom at a time.
+// Whether each pick names a finite atom, an atom at a time. `all` in place of the loop takes a tenth longer.
 fn each_finite(xs: &[f32], picks: &[u32]) -> bool
     ensures { result ≡ all_finite xs.now picks.now }
 {
     let atoms = xs.len() / 3;
-    let mut j = 0;
-    while j < picks.len() {
-        if !named(xs, atoms, 0, picks[j] as usize) {
+    for &p in picks {
+        if !named(xs, atoms, 0, p as usize) {
             return false;
         }
-        j += 1;
     }
     true
 }
@@ -117,24 +109,21 @@ pub fn is_sound(xs: &[f32], starts: &[u32], picks: &[u32]) -> bool
     all_finite(xs, picks)
 }
 
-// The first of 1, 2, 3, 4, 15 and 8 that holds, or 0. A call that takes no waters hands over an empty list.
+// The first of 1, 2, 3, 4, 15 and 8 that holds. A call that takes no waters hands over an empty list.
 pub fn input_refusal(
     cell: Cell,
     solutes: &[f32],
     waters: &[f32],
     starts: &[u32],
     picks: &[u32],
-) -> u32
-    ensures { result ≡ first_refusal (input_refusals (given cell solutes.now waters.now starts.now picks.now)) }
+) -> Result<(), Refused>
+    ensures { result ≡ answer_of (first_refusal (input_refusals (given cell solutes.now waters.now starts.now picks.now))) }
 {
-    let refusal = frame_limits::frame_refusal(cell, solutes, waters);
-    if refusal != 0 {
-        return refusal;
-    }
+    frame_limits::frame_refusal(cell, solutes, waters)?;
     if !is_sound(solutes, starts, picks) {
-        return 8;
+        return Err(Refused::Lists);
     }
-    0
+    Ok(())
 }
 
 // The picks of copy i; sound pick lists have what is asked.
@@ -142,7 +131,7 @@ pub fn copy_picks<'a>(starts: &[u32], picks: &'a [u32], i: usize) -> &'a [u32]
     requires { (i + 1 < length starts.now) × (get_or starts.now i 0 ≤ get_or starts.now (i + 1) 0) × (get_or starts.now (i + 1) 0 ≤ length picks.now) }
     ensures { result.now ≡ pick_list starts.now picks.now i }
 {
-    let a = base::wide(starts[i]);
-    let b = base::wide(starts[i + 1]);
+    let a = starts[i] as usize;
+    let b = starts[i + 1] as usize;
     &picks[a..b]
 }

@@ -76,14 +76,13 @@ module _ (c : Cell) (ws : List Float) where
 
 -- of the waters before k, m are finite
 pub record Counting (ws : List Float) (k m : ℕ) : Type 0 where
-  pub within : k ≤ length ws / 3
   pub few : m ≤ k
   pub total : m + finite_count ws (length ws / 3 - k) k ≡ finite_waters ws
 
 module _ {ws : List Float} where
   pub counting-first : Counting ws 0 0
   unfolding finite_waters
-  counting-first = record { within = omega arith; few = omega arith; total = rw (sub-zero, zero-add) }
+  counting-first = record { few = omega arith; total = rw (sub-zero, zero-add) }
 
   -- water k is finite, or it is not
   counting-next : {k m : ℕ} (b : Bool) → k < length ws / 3 → finite_point (point_at ws k) ≡ b → Counting ws k m → Counting ws (k + 1) (m + cond b 1 0)
@@ -91,7 +90,7 @@ module _ {ws : List Float} where
   counting-next {k} {m} b h f p =
       let more : length ws / 3 - k ≡ suc (length ws / 3 - (k + 1)) = omega arith in
       let total : m + (cond b 1 0 + finite_count ws (length ws / 3 - (k + 1)) (k + 1)) ≡ finite_waters ws = rw (more, f) at p.total in
-      record { within = omega arith; few = omega (arith, p.few, bit_le b); total = omega arith }
+      record { few = omega (arith, p.few, bit_le b); total = omega arith }
 
   pub counting-finite : {k m : ℕ} → k < length ws / 3 → finite_point (point_at ws k) ≡ true → Counting ws k m → Counting ws (k + 1) (m + 1)
   counting-finite h f p = counting-next true h f p

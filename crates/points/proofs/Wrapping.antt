@@ -29,7 +29,6 @@ centers-size f = wrap-length f.cell (centers_of f) (copies f.starts) 0
 
 -- n points of the list xs₀ are to be wrapped; those before i are, in the list xs
 pub record Wrapping (c : Cell) (n : ℕ) (xs₀ : List Float) (i : ℕ) (xs : List Float) : Type 0 where
-  pub within : i ≤ n
   pub filling : Filling 0 (wrap_from c xs₀ n 0) xs₀ (i * 3) (wrap_from c xs₀ (n - i) i) xs
   pub ahead : drop (i * 3) xs ≡ drop (i * 3) xs₀
 
@@ -45,7 +44,6 @@ module _ {c : Cell} {n : ℕ} {xs₀ : List Float} where
   pub wrapping-first : n * 3 ≤ length xs₀ → Wrapping c n xs₀ 0 xs₀
   wrapping-first h =
       record {
-        within = omega arith;
         filling = rw sub-zero (filling-first (rw (wrap-length c xs₀ n 0, zero-add) h));
         ahead = refl;
       }
@@ -62,7 +60,6 @@ module _ {c : Cell} {n : ℕ} {xs₀ : List Float} where
       let at : (i + 1) * 3 ≡ i * 3 + 3 = omega arith in
       let next : Filling 0 (wrap_from c xs₀ n 0) xs₀ (i * 3) (point_before p (wrap_from c xs₀ (n - (i + 1)) (i + 1))) xs = rw (more, same) at w.filling in
       record {
-        within = omega arith;
         filling = rw at (filling-three next);
         ahead =
             rw at

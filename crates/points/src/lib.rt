@@ -17,14 +17,12 @@ fn wrap_all(cell: Cell, xs: &mut [f32], n: usize)
     requires { n * 3 ≤ length xs.old }
     ensures { xs.new ≡ over (wrap_from cell xs.old n 0) xs.old }
 {
-    let mut i = 0;
-    while i < n {
+    for i in 0..n {
         let p = cell::wrap(cell, cell::point(xs, i));
         let at = i * 3;
         xs[at] = p.x;
         xs[at + 1] = p.y;
         xs[at + 2] = p.z;
-        i += 1;
     }
 }
 
@@ -44,10 +42,8 @@ pub fn put_waters(cell: Cell, waters: &[f32], out: &mut [f32]) -> usize
     ensures count { result ≡ finite_waters waters.now }
     ensures after { out.new ≡ over (tree_waters cell waters.now) out.old }
 {
-    let n = waters.len() / 3;
     let mut m = 0;
-    let mut k = 0;
-    while k < n {
+    for k in 0..waters.len() / 3 {
         let p = cell::point(waters, k);
         // Waters that are not finite are left out, and the others numbered without them.
         if cell::is_finite(p) {
@@ -58,7 +54,6 @@ pub fn put_waters(cell: Cell, waters: &[f32], out: &mut [f32]) -> usize
             out[at + 2] = w.z;
             m += 1;
         }
-        k += 1;
     }
     m
 }
@@ -67,14 +62,11 @@ pub fn put_waters(cell: Cell, waters: &[f32], out: &mut [f32]) -> usize
 pub fn count_waters(waters: &[f32]) -> usize
     ensures { result ≡ finite_waters waters.now }
 {
-    let n = waters.len() / 3;
     let mut m = 0;
-    let mut k = 0;
-    while k < n {
+    for k in 0..waters.len() / 3 {
         if cell::is_finite(cell::point(waters, k)) {
             m += 1;
         }
-        k += 1;
     }
     m
 }

@@ -10,16 +10,18 @@ use lib.ListN.{length, get_or, drop, replicate, get_or-append}
 use lib.Ieee.{Float}
 use Rattle.base.specs.Limits.{max_atoms}
 use Rattle.cell.specs.declared.Cell.{Cell}
-use Rattle.base.specs.Refusals.{first_refusal}
+use Rattle.std.specs.Prelude.{Result, Ok, Err, Some}
+use Rattle.base.specs.declared.Refused.{Refused}
+use Rattle.base.specs.Refusals.{first_refusal, refused, answer_of, answer_number}
 use Rattle.base.specs.Tables.{over}
-use Rattle.base.proofs.FirstRefusal.{first-none, at-refusal, number-answered}
+use Rattle.base.proofs.FirstRefusal.{first-none, at-refusal, refused-number, known, number-answered}
 use Rattle.pick_lists.specs.Sound.{copies, sound_lists}
 use Rattle.pick_lists.specs.Input.{Input}
 use Rattle.pick_lists.proofs.SoundLists.{sound-lists}
 use Rattle.bounds.specs.declared.OctreeBounds.{OctreeBounds}
 use Rattle.bounds.specs.Bounds.{cell_box}
-use Rattle.nodes.specs.Nodes.{Node, deepest, record_of, records_of}
-use Rattle.octree.specs.Tree.{room_refusal, TreeTables, tables_after}
+use Rattle.nodes.specs.Nodes.{Node, record_of, records_of}
+use Rattle.octree.specs.Tree.{size_of, room_refusal, TreeTables, tables_after}
 use Rattle.nodes.proofs.NodeTables.{records-length, record-word}
 use Rattle.octree.proofs.Counting.{nodes-few, nodes-within}
 use Rattle.points.specs.Points.{tree_centers, tree_waters, finite_waters}
@@ -27,14 +29,15 @@ use Rattle.tree.specs.Tree.{frame_tree, input_after}
 use Rattle.points.proofs.Wrapping.{point-over, centers-size}
 use Rattle.points.proofs.WaterList.{waters-length, waters-few}
 use Rattle.tree.proofs.TreeRefusals.{tests, call-tested, call-room}
-use Rattle.tree.proofs.Outcomes.{unchanged}
+use Rattle.tree_tables.proofs.Answering.{built-told}
+use Rattle.tree.proofs.Outcomes.{FrameAnswers, unchanged}
 use Rattle.leaf.specs.Leaf.{shell_from, density_of, reference_volume}
 use Rattle.leaf_table.specs.LeafTable.{leaf_words, leaves_from, reported_leaves, dry_leaves}
 use Rattle.leaf_table.specs.Inner.{node_at, nodes_from}
 use Rattle.report.specs.Inner.{core_answer}
-use Rattle.report.specs.Report.{leaf_table, report_room, report_refusal, answer_by, report_answer, report_number, leaves_by, report_after, leaves_after}
-use Rattle.report.specs.declared.Reported.{Reported}
-use Rattle.report.specs.declared.Reported.TheVariants.{Leaves, Refused}
+use Rattle.report.specs.Report.{leaf_table, report_room, report_refusal, answer_by, report_answer, leaves_by, report_after, leaves_after}
+use Rattle.report.specs.declared.ReportCounts.{ReportCounts}
+use Rattle.octree.specs.declared.TreeSize.{TreeSize}
 use Rattle.report.proofs.NodeBoxes.{tree-between}
 use Rattle.report.proofs.ReadBack.{read_back}
 
@@ -61,7 +64,21 @@ module _ (f : Input) where
       let size : length ws / 3 ≡ m = omega (arith, waters-length f.cell f.waters) in
       rw (size, d, r, w) (leaves-over f.cell (density_of f.cell m) (reference_volume f.cell (copies f.starts)) ws t m (omega (arith, waters-length f.cell f.waters)) 0 vs)
 
+  -- the finite waters are within the limit
+  pub waters-most : length f.waters ≤ max_atoms * 3 → finite_waters f.waters ≤ max_atoms
+  waters-most few = omega (arith, waters-length f.cell f.waters, waters-few f.cell f.waters)
+
   -- ---- what Tree left where nothing was refused: n nodes, and both node tables
+  pub record Grown (room : ℕ) (size : TreeSize) (t u : TreeTables) : Type 0 where
+    pub fits : 0 ≡ first_refusal (room_refusal room (frame_tree f) ∷ [])
+    pub size-is : size ≡ size_of (frame_tree f).nodes
+    pub after : u ≡ input_after 0 f t
+
+  pub grown : (room : ℕ) (size : TreeSize) (t u : TreeTables) → FrameAnswers (Some size) room f t u → Grown room size t u
+  grown room size t u (answer, after) =
+      let told = built-told (frame_tree f) room (Some size) answer in
+      record { fits = told.0; size-is = told.1 size refl; after = after }
+
   pub room_fits : (room : ℕ) → 0 ≡ first_refusal (room_refusal room (frame_tree f) ∷ []) → length (frame_tree f).nodes ≤ room
   room_fits room e = ltb-false room (length (frame_tree f).nodes) (first-none (room_refusal room (frame_tree f)) [] (λ z. omega arith) (sym e)).0
 
@@ -109,40 +126,41 @@ module _ (f : Input) where
 
   -- ---- the answer, by its number
   pub answer-leaves :
-      (r n d reported dry : ℕ) → let vs = (frame_tree f).nodes in
-      0 ≡ r → n ≡ length vs → d ≡ deepest vs → reported ≡ reported_leaves vs → dry ≡ dry_leaves vs → Leaves n d reported dry ≡ answer_by r f
+      (r : ℕ) (size : TreeSize) (reported dry : ℕ) → let vs = (frame_tree f).nodes in
+      0 ≡ r → size ≡ size_of vs → reported ≡ reported_leaves vs → dry ≡ dry_leaves vs →
+      Ok (record { nodes = size.nodes; depth = size.depth; leaves = reported; dry = dry }) ≡ answer_by r f
   unfolding answer_by
-  answer-leaves r n d reported dry z e g h k = rw (← z, e, g, h, k)
+  answer-leaves r size reported dry z e h k = rw (← z, e, h, k)
 
-  pub answer-refused : (k r : ℕ) → (k ≡ 0 → ⊥) → k ≡ r → Refused k ≡ answer_by r f
+  pub answer-refused : (r : ℕ) → (r ≡ 0 → ⊥) → refused r ≡ answer_by r f
   unfolding answer_by
-  answer-refused k r h e = rw (← e) (sym (at-refusal k _ (Refused k) h))
+  answer-refused r h = sym (at-refusal r _ (refused r) h)
 
-  pub report-told : (r : ℕ) (a : Reported) → a ≡ answer_by r f → report_number a ≡ r
-  unfolding answer_by
-  report-told r a e =
-      let vs = (frame_tree f).nodes in
-      ap report_number e ∙ number-answered report_number Refused (Leaves (length vs) (deepest vs) (reported_leaves vs) (dry_leaves vs)) refl (λ k. refl) r
+  -- of an answer that refuses with 13 alone
+  pub report-told : (room : ℕ) (a : Result ReportCounts Refused) → let r = first_refusal (room_refusal room (frame_tree f) ∷ []) in a ≡ answer_by r f → answer_number a ≡ r
+  unfolding answer_by known
+  report-told room a e = ap answer_number e ∙ number-answered _ (room_refusal room (frame_tree f) ∷ []) refl
 
 -- ---- the whole call
 module _ (f : Input) (t : TreeTables) (leaves : List ℕ) where
   -- it answers a, and leaves u and table
-  abbrev Report : Reported → TreeTables → List ℕ → Type 0
+  abbrev Report : Result ReportCounts Refused → TreeTables → List ℕ → Type 0
   Report a u table = (a ≡ report_answer f t leaves) × ((u ≡ report_after f t leaves) × (table ≡ leaves_after f t leaves))
 
-  -- a refusal r of the tests
-  pub report-refused : (r : ℕ) → r ≡ first_refusal (tests f t.center_order t.water_order) → (r ≡ 0 → ⊥) → Report (Refused r) t leaves
+  -- a refusal of the tests
+  pub report-refused : (e : Refused) → Err e ≡ answer_of (first_refusal (tests f t.center_order t.water_order)) → Report (Err e) t leaves
   unfolding report_answer report_after leaves_after report_refusal
-  report-refused r e n =
-      let first = call-tested (report_room t leaves) f t r e n in
-      rw (← first.0) (answer-refused f r r n refl, (unchanged r f t n first.1, leaves-unchanged f r leaves n first.1))
+  report-refused e h =
+      let r = first_refusal (tests f t.center_order t.water_order) in
+      let own = refused-number e r h in
+      let first = call-tested (report_room t leaves) f t r refl own.0 in
+      rw (← first.0) (ap Err own.1 ∙ answer-refused f r own.0, (unchanged r f t own.0 first.1, leaves-unchanged f r leaves own.0 first.1))
 
   -- the core's answer, where the tests refuse nothing
   pub report-worked :
-      (a : Reported) (u : TreeTables) (table : List ℕ) → first_refusal (tests f t.center_order t.water_order) ≡ 0 →
-      (a ≡ core_answer f t leaves) × ((u ≡ input_after (report_number a) f t) × (table ≡ leaves_by (report_number a) f leaves)) →
+      (a : Result ReportCounts Refused) (u : TreeTables) (table : List ℕ) → first_refusal (tests f t.center_order t.water_order) ≡ 0 →
+      (a ≡ core_answer f t leaves) × ((u ≡ input_after (answer_number a) f t) × (table ≡ leaves_by (answer_number a) f leaves)) →
       Report a u table
   unfolding report_answer report_after leaves_after report_refusal
   report-worked a u table none (answer, after) =
-      let thirteen = first_refusal (room_refusal (report_room t leaves) (frame_tree f) ∷ []) in
-      rw (call-room (report_room t leaves) f t none) (answer, rw (report-told f thirteen a answer) at after)
+      rw (call-room (report_room t leaves) f t none) (answer, rw (report-told f (report_room t leaves) a answer) at after)

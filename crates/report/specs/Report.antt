@@ -1,6 +1,8 @@
 -- docs/RULES.md, 'Leaf report' and Report: the leaf table of a frame's tree, and what Report answers and leaves. Definitions only. Assumes
 -- nothing.
-use Rattle.std.specs.Prelude.{List, [], ◌∷◌, ℕ, ◌/◌, min, length, replicate}
+use Rattle.std.specs.Prelude.{List, [], ◌∷◌, ℕ, ◌/◌, min, length, replicate, Result, Ok, Err}
+use Rattle.base.specs.declared.Refused.{Refused}
+use Rattle.base.specs.Refusals.{refused}
 use Rattle.base.specs.Tables.{over, unless_refused}
 use Rattle.pick_lists.specs.Sound.{copies}
 use Rattle.pick_lists.specs.Input.{Input}
@@ -10,8 +12,7 @@ use Rattle.octree.specs.Tree.{TreeTables, by_number}
 use Rattle.tree.specs.Tree.{frame_tree, refusal_in, whole_records, input_after}
 use Rattle.leaf.specs.Leaf.{density_of, reference_volume}
 use Rattle.leaf_table.specs.LeafTable.{leaves_from, reported_leaves, dry_leaves}
-use Rattle.report.specs.declared.Reported.{Reported}
-use Rattle.report.specs.declared.Reported.TheVariants.{Leaves, Refused}
+use Rattle.report.specs.declared.ReportCounts.{ReportCounts}
 
 -- the leaf table of a list of nodes: by the input's cell, copies and wrapped finite waters
 unfoldable pub leaf_table : Input → List Node → List ℕ
@@ -32,22 +33,20 @@ unfolding refusal_in
 report_refusal f t leaves = refusal_in (report_room t leaves) f t
 
 -- nodes, greatest depth, reported leaves and dry leaves of the tree, or the refusal r
-unfoldable pub answer_by : ℕ → Input → Reported
+unfoldable pub answer_by : ℕ → Input → Result ReportCounts Refused
 unfolding frame_tree reported_leaves dry_leaves
-answer_by r f = let vs = (frame_tree f).nodes in unless_refused r (Leaves (length vs) (deepest vs) (reported_leaves vs) (dry_leaves vs)) (Refused r)
+answer_by r f =
+    let vs = (frame_tree f).nodes in
+    unless_refused r (Ok (record { nodes = length vs; depth = deepest vs; leaves = reported_leaves vs; dry = dry_leaves vs })) (refused r)
 
-unfoldable pub report_answer : Input → TreeTables → List ℕ → Reported
+unfoldable pub report_answer : Input → TreeTables → List ℕ → Result ReportCounts Refused
 unfolding report_refusal answer_by
 report_answer f t leaves = answer_by (report_refusal f t leaves) f
 
--- the number and the values of each case of an answer
-abbrev pub report_number : Reported → ℕ
-report_number (Leaves n d l y) = 0
-report_number (Refused r) = r
-
-abbrev pub report_values : Reported → List ℕ
-report_values (Leaves n d l y) = n ∷ d ∷ l ∷ y ∷ []
-report_values (Refused r) = []
+-- the values of each case of an answer
+abbrev pub report_values : Result ReportCounts Refused → List ℕ
+report_values (Ok c) = c.nodes ∷ c.depth ∷ c.leaves ∷ c.dry ∷ []
+report_values (Err e) = []
 
 -- the leaf table after the answer of number r
 unfoldable pub leaves_by : ℕ → Input → List ℕ → List ℕ

@@ -1,14 +1,16 @@
 // Square root, correctly rounded, at two widths. The bits are split into sign, exponent and fraction by shifts and masks,
 // the root is taken over whole numbers, one digit a turn, and the fields are put together again.
+// It is not std's sqrt: the must-fail edits `root_rounded_down` and `root32_below_zero` edit these bodies.
 #![tactic(auto)]
 
 ghost use Rattle.std.specs.Prelude.{◌≡◌, suc, ◌*◌, ◌/◌, ◌%◌, ◌^◌, ◌<◌, ◌≤◌};
-ghost use Rattle.std.specs.Float.{binary32, binary64};
-ghost use Rattle.std.specs.Float.Ieee.{of_bits, to_bits};
+ghost use Rattle.std.specs.Float.Ieee.{hid, ones, of_bits, to_bits};
 ghost use Rattle.floats.specs.Inner.{Rooted};
+ghost use Rattle.floats.proofs.RootBits.{Packed};
 ghost use Rattle.floats.specs.Root.{root_drop, root_digits, sqrt_of};
 
-use numbers::class::{NAN32, NAN64, from_bits32, from_bits64, to_bits32, to_bits64};
+use numbers::class::from_bits;
+use numbers::width::Width;
 
 // The whole root of m * 4^n / 2^54, where m has at most 54 binary digits: a digit of the root a turn.
 // `rem` is what the square of `r` leaves of the digits of m taken so far, two at a time from the top.
@@ -19,11 +21,9 @@ fn root(m: u64, n: u64) -> u64
     let mut r: u64 = 0;
     let mut rem: u64 = 0;
     let mut w: u64 = m;
-    let mut i: u64 = 0;
-    while i < n {
+    for _ in 0..n {
         let t = rem * 4 + (w >> 52);
         w = (w & 0xf_ffff_ffff_ffff) << 2;
-        i += 1;
         let digit = (r * 4 < t) as u64;
         rem = t - (r * 4 + 1) * digit;
         r = r * 2 + digit;
@@ -55,7 +55,7 @@ fn root_of(m: u64, t: u64, p: u64) -> RootFields
     requires { (0 < m) × (m < 2 ^ 53) × (120 ≤ t) × (t < 4096) × (p ≤ 53) }
     ensures { (result.exponent ≡ suc (root_drop p (m * 2 ^ t))) × (result.digits ≡ root_digits p (m * 2 ^ t)) }
 {
-    let s = u64::leading_zeros(m) as u64 - 11;
+    let s = m.leading_zeros() as u64 - 11;
     let d = m << s;
     let e = t - s;
     if e % 2 == 0 {
@@ -64,74 +64,48 @@ fn root_of(m: u64, t: u64, p: u64) -> RootFields
     even_root(d * 2, e - 1, p)
 }
 
-// The bits of the square root of the f32 whose bits are b.
-pub fn sqrt_bits32(b: u32) -> u32
-    ensures { result ≡ to_bits binary32 (sqrt_of binary32 (of_bits binary32 b)) }
+// The root of a finite number above zero, by the number's bits.
+fn root_of_bits<W: Width>(n: u64) -> RootFields
+    requires { (0 < n) × (n < ones W.format * hid W.format) }
+    ensures { Packed W.format n result.exponent result.digits }
 {
-    let size = b & 0x7fff_ffff;
+    let digits = W::DIGITS;
+    let lowest = W::LOWEST;
+    let lead = 1u64 << (digits - 1);
+    let up = 53 - digits; // to the digits of an f64
+    let exponent = n >> (digits - 1);
+    let fraction = n & (lead - 1);
+    if exponent == 0 {
+        return root_of(fraction << up, lowest - up, digits);
+    }
+    root_of((fraction | lead) << up, exponent - 1 + lowest - up, digits)
+}
+
+// The bits of the square root of the float whose bits are b.
+pub fn sqrt_bits<W: Width>(b: W::Bits) -> W::Bits
+    ensures { W.number result ≡ to_bits W.format (sqrt_of W.format (of_bits W.format (W.number b))) }
+{
+    let n = W::to_u64(b);
+    let size = n & (W::SIGN_BIT - 1);
     if size == 0 {
         return b;
     }
-    if size > 0x7f80_0000 {
-        return NAN32;
+    if size > W::INFINITY_BITS || n != size {
+        return W::from_u64(W::NAN_BITS);
     }
-    if b >> 31 != 0 {
-        return NAN32;
-    }
-    if size == 0x7f80_0000 {
+    if size == W::INFINITY_BITS {
         return b;
     }
-    let exponent = b >> 23;
-    let fraction = b & 0x7f_ffff;
-    if exponent == 0 {
-        let r = root_of((fraction as u64) << 29, 120, 24);
-        return ((r.exponent << 23) + r.digits) as u32;
-    }
-    let r = root_of(
-        ((fraction | 0x80_0000) as u64) << 29,
-        exponent as u64 + 119,
-        24,
-    );
-    ((r.exponent << 23) + r.digits) as u32
-}
-
-// The bits of the square root of the f64 whose bits are b.
-pub fn sqrt_bits64(b: u64) -> u64
-    ensures { result ≡ to_bits binary64 (sqrt_of binary64 (of_bits binary64 b)) }
-{
-    let size = b & 0x7fff_ffff_ffff_ffff;
-    if size == 0 {
-        return b;
-    }
-    if size > 0x7ff0_0000_0000_0000 {
-        return NAN64;
-    }
-    if b >> 63 != 0 {
-        return NAN64;
-    }
-    if size == 0x7ff0_0000_0000_0000 {
-        return b;
-    }
-    let exponent = b >> 52;
-    let fraction = b & 0xf_ffff_ffff_ffff;
-    if exponent == 0 {
-        let r = root_of(fraction, 1074, 53);
-        return (r.exponent << 52) + r.digits;
-    }
-    let r = root_of(fraction | 0x10_0000_0000_0000, exponent + 1073, 53);
-    (r.exponent << 52) + r.digits
+    let r = root_of_bits::<W>(n);
+    W::from_u64((r.exponent << (W::DIGITS - 1)) + r.digits)
 }
 
 // The square root of x.
-pub fn sqrt32(x: f32) -> f32
-    ensures { result ≡ sqrt_of binary32 x }
+pub fn sqrt<W: Width>(x: W) -> W
+    ensures { W.value result ≡ sqrt_of W.format (W.value x) }
 {
-    from_bits32(sqrt_bits32(to_bits32(x)))
-}
-
-// The square root of x.
-pub fn sqrt64(x: f64) -> f64
-    ensures { result ≡ sqrt_of binary64 x }
-{
-    from_bits64(sqrt_bits64(to_bits64(x)))
+    if x.is_nan() {
+        return x;
+    }
+    from_bits(sqrt_bits::<W>(x.bits()))
 }

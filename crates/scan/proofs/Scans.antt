@@ -9,6 +9,7 @@ use native.Mathlib.Omega.{arith}
 use lib.ListN.{length}
 use lib.Dec.{ltb, leb}
 use lib.Ieee.{Float, binary32, to_bits}
+use Rattle.std.proofs.Common.{Ok}
 use borrow.Author.Tests.{lt-ltb, le-ltb, lt-leb}
 use Rattle.base.specs.Limits.{max_copies}
 use Rattle.base.specs.Refusals.{refuse, first_refusal}
@@ -23,7 +24,7 @@ use Rattle.pick_lists.proofs.SoundLists.{sound-lists}
 use Rattle.cluster_table.specs.Table.{words, opened, sound_table}
 use Rattle.cluster_table.specs.Refusals.{other_cutoff}
 use Rattle.cluster_table.specs.Fractions.{table_fractions}
-use Rattle.clusters.specs.Answers.{row_table, open_refusal, open_after, row_refusal, closed, close_answer}
+use Rattle.clusters.specs.Answers.{row_table, open_refusal, open_after, row_refusal, close_answer}
 use Rattle.clusters.specs.Order.{row, call_after, after}
 use Rattle.scan.specs.Scan.{rising, scanned}
 use Rattle.clusters.proofs.Refusals.{open_none}
@@ -130,5 +131,5 @@ module _ (f : Input) (k : Float) (lent : List ℕ) (fine : first_refusal (input_
   scanned-sound = sound-table state-of
 
   -- Close answers the fractions
-  pub scanned-closes : close_answer (scanned f k lent) ≡ closed (table_fractions (scanned f k lent))
+  pub scanned-closes : close_answer (scanned f k lent) ≡ Ok (table_fractions (scanned f k lent))
   scanned-closes = close-full state-of (few f fine) (λ j l. lt-ltb j (copies f.starts) l)

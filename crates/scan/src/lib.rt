@@ -40,12 +40,10 @@ fn scan_boxed(
     let n = starts.len() - 1;
     // Flags of copies up to i are of an earlier row, and not read.
     span_table::mark_apart(g, room, flags, n, i);
-    let mut k = i + 1;
-    while k < n {
+    for k in i + 1..n {
         if span_table::marked_touch(cell, cutoff, solutes, starts, picks, room, flags, i, k) {
             cluster_table::add_contact(table, n, i, k);
         }
-        k += 1;
     }
     cluster_table::set_mark(table, n, i);
 }
@@ -69,23 +67,12 @@ fn scan_rows(
     ensures { table.new ≡ scanned (given cell solutes.now [] starts.now picks.now) cutoff table.old }
 {
     let copies = starts.len() - 1;
-    cluster_table::open_table(table, copies, numbers::class::to_bits32(cutoff));
-    let mut i = 0;
-    while i < copies {
+    cluster_table::open_table(table, copies, numbers::class::to_bits(cutoff));
+    for i in 0..copies {
         scan_boxed(
             cell, cutoff, g, solutes, starts, picks, room, flags, table, i,
         );
-        i += 1;
     }
-}
-
-// Long local arrays (docs/DECISIONS.md, 'The gate').
-fn box_room() -> [f32; MAX_COPIES * 6] {
-    [0f32; MAX_COPIES * 6]
-}
-
-fn flag_room() -> [u32; MAX_COPIES] {
-    [0u32; MAX_COPIES]
 }
 
 // Opens the table and scans every row in rising order, for input that nothing refuses: the core of the whole frame. The span table is made once.
@@ -102,8 +89,8 @@ pub fn scan_all(
     ensures { table.new ≡ scanned (given cell solutes.now [] starts.now picks.now) cutoff table.old }
 {
     // What the arrays hold at first is never read.
-    let mut room = box_room();
-    let mut flags = flag_room();
+    let mut room: [f32; MAX_COPIES * 6] = base::room(0.0);
+    let mut flags: [u32; MAX_COPIES] = base::room(0);
     span_table::fill_spans(solutes, starts, picks, &mut room);
     let g = span_table::marks_of(cell, cutoff, &room, starts.len() - 1);
     scan_rows(

@@ -6,24 +6,11 @@
 
 ghost use Rattle.std.specs.Prelude.{◌*◌, ◌≤◌, ◌<◌, length};
 
-use base::Answer;
+use base::Refused;
 use cell::{Cell, Vec3};
-use clusters::Closing;
-use selection::Selected;
+use numbers::class::to_bits;
 use std::io;
 use touch::CUTOFF;
-
-fn text(rt: &impl Print, s: &str) -> io::Result<()> {
-    rt.print(s)
-}
-
-fn decimal(rt: &impl Print, n: u32) -> io::Result<()> {
-    rt.print(n)
-}
-
-fn hex(rt: &impl Print, x: f32) -> io::Result<()> {
-    print!(rt; "{:08x} ", numbers::class::to_bits32(x))
-}
 
 fn cube() -> Cell {
     Cell {
@@ -40,20 +27,18 @@ fn cube() -> Cell {
     }
 }
 
-fn number(a: Answer) -> u32 {
-    match a {
-        Answer::Accepted => 0,
-        Answer::Refused(n) => n,
+// A refusal's number, or 0.
+fn number<T: Drop>(answer: Result<T, Refused>) -> u32 {
+    match answer {
+        Ok(_) => 0,
+        Err(e) => e.number(),
     }
 }
 
 // Prints an answer that is not the expected one.
 fn expect(rt: &impl Print, name: &str, got: u32, expected: u32) -> io::Result<()> {
     if got != expected {
-        text(rt, name)?;
-        text(rt, " wrongly answered ")?;
-        decimal(rt, got)?;
-        text(rt, "\n")?;
+        println!(rt; "{name} wrongly answered {got}")?;
     }
     Ok(())
 }
@@ -63,54 +48,18 @@ fn place(xs: &mut [f32], n: usize)
     requires { (n ≤ 4096) × (n * 3 ≤ length xs.old) }
 {
     let mut x = 0.0;
-    let mut i: usize = 0;
-    while i < n {
+    for i in 0..n {
         xs[i * 3] = x;
-        x += 4.0;
-        if i % 4 == 3 {
-            x += 4.0;
-        }
-        i += 1;
+        x += if i % 4 == 3 { 8.0 } else { 4.0 };
     }
 }
 
-// n atoms, a copy each; prints a refusal's number or 0.
-fn copies(
-    rt: &impl Print,
-    xs: &mut [f32],
-    starts: &mut [u32],
-    picks: &mut [u32],
-    n: usize,
-) -> io::Result<()>
+// n atoms, a copy each; a refusal's number or 0.
+fn copies(xs: &mut [f32], starts: &mut [u32], picks: &mut [u32], n: usize) -> u32
     requires { (n ≤ 4096) × (n * 3 ≤ length xs.old) }
 {
     place(xs, n);
-    match selection::select(xs, 1, &[0u32; 0], starts, picks) {
-        Selected::Refused(n) => decimal(rt, n),
-        Selected::Kept {
-            copies: _,
-            picks: _,
-        } => decimal(rt, 0),
-    }
-}
-
-// A row, an opening and a close, each with the answer that is expected: a refusal's number or 0.
-fn row(
-    rt: &impl Print,
-    cutoff: f32,
-    xs: &[f32],
-    starts: &[u32],
-    picks: &[u32],
-    table: &mut [u32],
-    i: usize,
-    expected: u32,
-) -> io::Result<()> {
-    expect(
-        rt,
-        "row",
-        number(clusters::row(cube(), cutoff, xs, starts, picks, table, i)),
-        expected,
-    )
+    number(selection::select(xs, 1, &[], starts, picks))
 }
 
 fn open(
@@ -130,169 +79,152 @@ fn open(
 
 // 12 while rows are missing.
 fn close(rt: &impl Print, table: &[u32], missing: bool) -> io::Result<()> {
-    let got = match clusters::close(table) {
-        Closing::Fractions(_, _, _) => 0,
-        Closing::Refused(n) => n,
-    };
-    expect(rt, "close", got, if missing { 12 } else { 0 })
-}
-
-// Refused rows: row i again (11), a row past the copies (10), and that row at another cutoff (17) and at 0 (16).
-fn refused_rows(
-    rt: &impl Print,
-    cutoff: f32,
-    xs: &[f32],
-    starts: &[u32],
-    picks: &[u32],
-    table: &mut [u32],
-    i: usize,
-) -> io::Result<()> {
-    row(rt, cutoff, xs, starts, picks, table, i, 11)?;
-    row(rt, cutoff, xs, starts, picks, table, 5000, 10)?;
-    row(rt, 4.0, xs, starts, picks, table, 5000, 17)?;
-    row(rt, 0.0, xs, starts, picks, table, 5000, 16)
-}
-
-// Row i; and, where it is so, refused rows, openings for too many copies (5) and above 16 angstrom (16), and a close.
-fn turn(
-    rt: &impl Print,
-    cutoff: f32,
-    xs: &[f32],
-    starts: &[u32],
-    picks: &[u32],
-    table: &mut [u32],
-    i: usize,
-    others: bool,
-    missing: bool,
-) -> io::Result<()> {
-    row(rt, cutoff, xs, starts, picks, table, i, 0)?;
-    if others {
-        refused_rows(rt, cutoff, xs, starts, picks, table, i)?;
-        open(rt, table, 5000, cutoff, 5)?;
-        open(rt, table, 64, 16.5, 16)?;
-        close(rt, table, missing)?;
-    }
-    Ok(())
+    let expected = if missing { 12 } else { 0 };
+    expect(rt, "close", number(clusters::close(table)), expected)
 }
 
 // The fractions, and those that are expected: they are the same in every order.
 fn show(rt: &impl Print, name: &str, table: &[u32], expected: &str) -> io::Result<()> {
-    text(rt, name)?;
-    text(rt, ": close ")?;
+    print!(rt; "{name}: close ")?;
     match clusters::close(table) {
-        Closing::Fractions(largest, contacted, pair) => {
-            hex(rt, largest)?;
-            hex(rt, contacted)?;
-            hex(rt, pair)?;
+        Ok(f) => {
+            let (largest, contacted) = (to_bits(f.largest), to_bits(f.contacted));
+            print!(rt; "{largest:08x} {contacted:08x} {:08x} ", to_bits(f.pair))?;
         }
-        Closing::Refused(n) => decimal(rt, n)?,
+        Err(e) => print!(rt; "{}", e.number())?,
     }
-    text(rt, "expected ")?;
-    text(rt, expected)?;
-    text(rt, "\n")
+    println!(rt; "expected {expected}")
 }
 
-// The rows 0, step, 2 step, .. of n copies, counted round n; with other calls in between where there are fewer than 4,096.
-fn scan(
-    rt: &impl Print,
-    name: &str,
-    expected: &str,
+// What is scanned: copies of one atom, at a cutoff.
+#[derive(Clone, Copy)]
+struct Scan<'a> {
     cutoff: f32,
-    xs: &[f32],
-    starts: &[u32],
-    picks: &[u32],
-    table: &mut [u32],
-    n: usize,
-    step: usize,
-) -> io::Result<()>
-    requires { (0 < n) × ((n ≤ 4096) × (step ≤ 4096)) }
-{
-    open(rt, table, n, cutoff, 0)?;
-    let mut i: usize = 0;
-    let mut k: usize = 0;
-    while k < n {
-        turn(rt, cutoff, xs, starts, picks, table, i, n < 4096, k + 1 < n)?;
-        i = (i + step) % n;
-        k += 1;
+    xs: &'a [f32],
+    starts: &'a [u32],
+    picks: &'a [u32],
+}
+
+impl Scan<'_> {
+    // A row, with the answer that is expected: a refusal's number or 0.
+    fn row(self, rt: &impl Print, table: &mut [u32], i: usize, expected: u32) -> io::Result<()> {
+        let got = clusters::row(
+            cube(),
+            self.cutoff,
+            self.xs,
+            self.starts,
+            self.picks,
+            table,
+            i,
+        );
+        expect(rt, "row", number(got), expected)
     }
-    show(rt, name, table, expected)
-}
 
-// Long local arrays (docs/DECISIONS.md, 'The gate').
-fn coordinate_room() -> [f32; 12288] {
-    [0f32; 12288]
-}
+    // Refused rows: row i again (11), a row past the copies (10), and that row at another cutoff (17) and at 0 (16).
+    fn refused_rows(self, rt: &impl Print, table: &mut [u32], i: usize) -> io::Result<()> {
+        self.row(rt, table, i, 11)?;
+        self.row(rt, table, 5000, 10)?;
+        Scan {
+            cutoff: 4.0,
+            ..self
+        }
+        .row(rt, table, 5000, 17)?;
+        Scan {
+            cutoff: 0.0,
+            ..self
+        }
+        .row(rt, table, 5000, 16)
+    }
 
-fn table_room() -> [u32; 12294] {
-    [0u32; 12294]
-}
+    // Row i; and, where it is so, refused rows, openings for too many copies (5) and above 16 angstrom (16), and a close.
+    fn turn(
+        self,
+        rt: &impl Print,
+        table: &mut [u32],
+        i: usize,
+        others: bool,
+        missing: bool,
+    ) -> io::Result<()> {
+        self.row(rt, table, i, 0)?;
+        if others {
+            self.refused_rows(rt, table, i)?;
+            open(rt, table, 5000, self.cutoff, 5)?;
+            open(rt, table, 64, 16.5, 16)?;
+            close(rt, table, missing)?;
+        }
+        Ok(())
+    }
 
-fn too_many(rt: &impl Print, table: &mut [u32]) -> io::Result<()> {
-    text(rt, " for 4,096 copies, ")?;
-    decimal(rt, number(clusters::open(table, 4097, CUTOFF)))?;
-    text(rt, " for 4,097; expected 0 and 5\n")
+    // The rows 0, step, 2 step, .. of n copies, counted round n; with other calls in between where there are fewer than 4,096.
+    fn scan(
+        self,
+        rt: &impl Print,
+        name: &str,
+        expected: &str,
+        table: &mut [u32],
+        n: usize,
+        step: usize,
+    ) -> io::Result<()>
+        requires { (0 < n) × (n ≤ 4096) × (step ≤ 4096) }
+    {
+        open(rt, table, n, self.cutoff, 0)?;
+        for k in 0..n {
+            self.turn(rt, table, k * step % n, n < 4096, k + 1 < n)?;
+        }
+        show(rt, name, table, expected)
+    }
 }
 
 fn all_copies(rt: &impl Print) -> io::Result<()> {
-    let mut xs = coordinate_room();
-    let mut starts = [0u32; 4097];
-    let mut picks = [0u32; 4096];
-    let mut table = table_room();
-    copies(rt, &mut xs, &mut starts, &mut picks, 4096)?;
-    too_many(rt, &mut table)?;
-    scan(
+    let mut xs: [f32; 12288] = base::room(0.0);
+    let mut starts = [0; 4097];
+    let mut picks = [0; 4096];
+    let mut table: [u32; 12294] = base::room(0);
+    let kept = copies(&mut xs, &mut starts, &mut picks, 4096);
+    let many = number(clusters::open(&mut table, 4097, CUTOFF));
+    println!(rt; "{kept} for 4,096 copies, {many} for 4,097; expected 0 and 5")?;
+    let scan = Scan {
+        cutoff: CUTOFF,
+        xs: &xs,
+        starts: &starts,
+        picks: &picks,
+    };
+    scan.scan(
         rt,
         "4,096 copies",
         "3a400c01 3f800000 39c00c01",
-        CUTOFF,
-        &xs,
-        &starts,
-        &picks,
         &mut table,
         4096,
         1,
     )
 }
 
-fn orders(
-    rt: &impl Print,
-    xs: &[f32],
-    starts: &[u32],
-    picks: &[u32],
-    table: &mut [u32],
-) -> io::Result<()> {
+fn orders(rt: &impl Print, scan: Scan, table: &mut [u32]) -> io::Result<()> {
     let fractions = "3d430c31 3f800000 3cc30c31";
-    scan(
-        rt, "rising", fractions, CUTOFF, xs, starts, picks, table, 64, 1,
-    )?;
-    scan(
-        rt, "falling", fractions, CUTOFF, xs, starts, picks, table, 64, 63,
-    )?;
-    scan(
-        rt, "strided", fractions, CUTOFF, xs, starts, picks, table, 64, 37,
-    )?;
-    scan(
-        rt,
-        "at 8",
-        "3f800000 3f800000 3d410410",
-        8.0,
-        xs,
-        starts,
-        picks,
-        table,
-        64,
-        37,
-    )
+    scan.scan(rt, "rising", fractions, table, 64, 1)?;
+    scan.scan(rt, "falling", fractions, table, 64, 63)?;
+    scan.scan(rt, "strided", fractions, table, 64, 37)?;
+    let wide = Scan {
+        cutoff: 8.0,
+        ..scan
+    };
+    wide.scan(rt, "at 8", "3f800000 3f800000 3d410410", table, 64, 37)
 }
 
 fn three_orders(rt: &impl Print) -> io::Result<()> {
-    let mut xs = [0f32; 192];
-    let mut starts = [0u32; 65];
-    let mut picks = [0u32; 64];
-    let mut table = [0u32; 195];
-    copies(rt, &mut xs, &mut starts, &mut picks, 64)?;
-    text(rt, " for 64 copies; expected 0\n")?;
-    orders(rt, &xs, &starts, &picks, &mut table)
+    let mut xs = [0.0; 192];
+    let mut starts = [0; 65];
+    let mut picks = [0; 64];
+    let mut table = [0; 195];
+    let kept = copies(&mut xs, &mut starts, &mut picks, 64);
+    println!(rt; "{kept} for 64 copies; expected 0")?;
+    let scan = Scan {
+        cutoff: CUTOFF,
+        xs: &xs,
+        starts: &starts,
+        picks: &picks,
+    };
+    orders(rt, scan, &mut table)
 }
 
 fn main(rt: HostRuntime) -> io::Result<()> {

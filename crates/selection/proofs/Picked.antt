@@ -1,13 +1,12 @@
 -- What is picked of a copy, an index or an atom at a time: what is left of the indices, or of the atoms, decides. And how much it is.
 -- Assumes nothing.
 use mathlib.Core.Path.{◌≡◌, refl}
-use mathlib.Core.Bool.{Bool, true, false, cond, ◌&&◌, and-eq-true_iff}
+use mathlib.Core.Bool.{Bool, true, false, cond, ◌&&◌}
 use mathlib.Core.List.{List, [], ◌∷◌}
 use Prim.Native.Nat.{ℕ, zero, suc, ◌+◌, ◌-◌, ◌*◌, ◌≤◌, ◌<◌}
 use native.Mathlib.Numerals.{add-one}
 use native.Mathlib.Omega.{arith}
 use lib.Dec.{ltb}
-use borrow.Author.Tests.{ltb-true}
 use lib.ListN.{length, get_or, drop, drop_of_length-le}
 use lib.Seq.{drop-cons}
 use lib.Ieee.{Float}
@@ -17,27 +16,25 @@ use Rattle.pick_lists.specs.Sound.{finite_atom}
 use Rattle.selection.specs.Selection.{finite_atoms, indexed, or_else, picked}
 
 -- ---- by the indices
-module _ (xs : List Float) (per base : ℕ) (is : List ℕ) (j : ℕ) where
-  -- index j names a finite atom of the copy
-  abbrev pub names : Bool
-  names = ltb (get_or is j 0) per && finite_atom xs (base + get_or is j 0)
+module _ (xs : List Float) (per base : ℕ) where
+  -- index i names a finite atom of the copy
+  abbrev pub names : ℕ → Bool
+  names i = ltb i per && finite_atom xs (base + i)
 
-  pub names-below : names ≡ true → get_or is j 0 < per
-  names-below e = ltb-true (get_or is j 0) per ((and-eq-true_iff (ltb (get_or is j 0) per) (finite_atom xs (base + get_or is j 0))).0 e).0
+  module _ (is : List ℕ) (j : ℕ) (l : j < length is) where
+    indexed-more : indexed xs per base (drop j is) ≡ cond (names (get_or is j 0)) ((base + get_or is j 0) ∷ indexed xs per base (drop (j + 1) is)) (indexed xs per base (drop (j + 1) is))
+    unfolding indexed
+    indexed-more = rw (add-one, drop-cons is j 0)
 
-  indexed-more : j < length is → indexed xs per base (drop j is) ≡ cond names ((base + get_or is j 0) ∷ indexed xs per base (drop (j + 1) is)) (indexed xs per base (drop (j + 1) is))
+    pub indexed-hit : names (get_or is j 0) ≡ true → indexed xs per base (drop j is) ≡ (base + get_or is j 0) ∷ indexed xs per base (drop (j + 1) is)
+    indexed-hit e = rw (indexed-more, e)
+
+    pub indexed-skip : names (get_or is j 0) ≡ false → indexed xs per base (drop j is) ≡ indexed xs per base (drop (j + 1) is)
+    indexed-skip e = rw (indexed-more, e)
+
+  pub indexed-none : (is : List ℕ) (j : ℕ) → length is ≤ j → indexed xs per base (drop j is) ≡ []
   unfolding indexed
-  indexed-more l = rw (add-one, drop-cons is j 0)
-
-  pub indexed-hit : j < length is → names ≡ true → indexed xs per base (drop j is) ≡ (base + get_or is j 0) ∷ indexed xs per base (drop (j + 1) is)
-  indexed-hit l e = rw (indexed-more l, e)
-
-  pub indexed-skip : j < length is → names ≡ false → indexed xs per base (drop j is) ≡ indexed xs per base (drop (j + 1) is)
-  indexed-skip l e = rw (indexed-more l, e)
-
-  pub indexed-none : length is ≤ j → indexed xs per base (drop j is) ≡ []
-  unfolding indexed
-  indexed-none l = rw drop_of_length-le
+  indexed-none is j l = rw drop_of_length-le
 
 -- ---- all finite atoms
 module _ (xs : List Float) (per base k : ℕ) where
@@ -59,13 +56,6 @@ module _ (xs : List Float) (per base k : ℕ) where
   finite-none l =
       let n : per - k ≡ 0 = omega arith in
       rw n
-
--- from the first atom on
-pub finite-all : (xs : List Float) (per base : ℕ) → finite_atoms xs (per - 0) (base + 0) ≡ finite_atoms xs per base
-finite-all xs per base =
-    let m : base + 0 ≡ base = omega arith in
-    let n : per - 0 ≡ per = omega arith in
-    rw (n, m)
 
 -- ---- which of the two
 else-first : (ys zs : List ℕ) → 0 < length ys → or_else ys zs ≡ ys

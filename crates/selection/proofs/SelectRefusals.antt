@@ -9,14 +9,16 @@ use lib.Dec.{ltb}
 use lib.ListN.{length}
 use borrow.Author.Tests.{ltb-false, le-ltb}
 use lib.Ieee.{Float}
-use Rattle.base.specs.Refusals.{Refusal, first_refusal}
+use Rattle.std.proofs.Common.{Result, Ok, Err, ap}
+use Rattle.std.specs.Bool.{⊤}
+use Rattle.base.specs.declared.Refused.{Refused}
+use Rattle.base.specs.Refusals.{Refusal, first_refusal, answer_of}
 use Rattle.frame_limits.specs.Limits.{lengths, counts, coordinates, ragged, long, long_indices, any_over, max_coordinate}
 use Rattle.base.specs.Limits.{max_indices, max_copies, max_picks, max_atoms}
 use Rattle.base.specs.Tables.{over}
-use Rattle.base.proofs.FirstRefusal.{numbered, first-none, append-hit, append-skip, at-refusal}
+use Rattle.base.proofs.FirstRefusal.{numbered, first-none, append-refused, append-skip, accepted-zero, refused-number, refused-alike, at-refusal}
 use Rattle.base.proofs.Tests.{neither}
-use Rattle.selection.specs.declared.Selected.{Selected}
-use Rattle.selection.specs.declared.Selected.TheVariants.{Refused, Kept}
+use Rattle.selection.specs.declared.Counted.{Counted}
 use Rattle.selection.specs.Selection.{kept_copies, picks_of, starts_of, list_refusals, room_refusals, select_refusals, select_refusal, select_answer, starts_after, picks_after}
 
 -- two limits, neither of them passed
@@ -49,26 +51,31 @@ module _ (solutes : List Float) (per : ℕ) (indices starts picks : List ℕ) wh
   room : List Refusal
   room = room_refusals (length (kept_copies solutes per indices)) (length (picks_of (kept_copies solutes per indices))) (length starts) (length picks)
 
+  -- so many copies are kept, and atoms picked in them
+  abbrev pub counted : Counted
+  counted = record { copies = length (kept_copies solutes per indices); picks = length (picks_of (kept_copies solutes per indices)) }
+
   -- the answer r and the tables afterwards are Select's
-  abbrev pub Answers : Selected → List ℕ → List ℕ → Type 0
+  abbrev pub Answers : Result Counted Refused → List ℕ → List ℕ → Type 0
   Answers r starts' picks' = (r ≡ select_answer solutes per indices starts picks) × ((starts' ≡ starts_after solutes per indices starts picks) × (picks' ≡ picks_after solutes per indices starts picks))
 
   -- a refusal leaves both tables
-  refused : (r : ℕ) → r ≡ select_refusal solutes per indices starts picks → (r ≡ 0 → ⊥) → Answers (Refused r) starts picks
+  left : (e : Refused) → Err e ≡ answer_of (select_refusal solutes per indices starts picks) → Answers (Err e) starts picks
   unfolding select_answer starts_after picks_after
-  refused r e n =
-      let cs = kept_copies solutes per indices in
-      rw (← e) (sym (at-refusal r (Kept (length cs) (length (picks_of cs))) (Refused r) n), (sym (at-refusal r (over (starts_of cs) starts) starts n), sym (at-refusal r (over (picks_of cs) picks) picks n)))
+  left e h =
+      let r = select_refusal solutes per indices starts picks in
+      let n = (refused-number e r h).0 in
+      (refused-alike r tt counted e h, (sym (at-refusal r _ starts n), sym (at-refusal r _ picks n)))
 
   -- success writes both
-  written : select_refusal solutes per indices starts picks ≡ 0 → let cs = kept_copies solutes per indices in Answers (Kept (length cs) (length (picks_of cs))) (over (starts_of cs) starts) (over (picks_of cs) picks)
+  written : select_refusal solutes per indices starts picks ≡ 0 → let cs = kept_copies solutes per indices in Answers (Ok counted) (over (starts_of cs) starts) (over (picks_of cs) picks)
   unfolding select_answer starts_after picks_after
   written e = rw e (refl, (refl, refl))
 
   -- a refusal of the lists is the first
-  pub refused-lists : (r : ℕ) → r ≡ first_refusal (list_refusals solutes indices) → (r ≡ 0 → ⊥) → Answers (Refused r) starts picks
+  pub refused-lists : (e : Refused) → Err e ≡ answer_of (first_refusal (list_refusals solutes indices)) → Answers (Err e) starts picks
   unfolding select_refusal select_refusals room
-  refused-lists r e n = refused r (e ∙ sym (append-hit (list_refusals solutes indices) room (list-numbered solutes indices) (λ z. n (e ∙ z)))) n
+  refused-lists e h = left e (append-refused (list_refusals solutes indices) room (list-numbered solutes indices) e h)
 
   -- without one the counts and the tables' room decide
   module _ (none : first_refusal (list_refusals solutes indices) ≡ 0) where
@@ -76,21 +83,22 @@ module _ (solutes : List Float) (per : ℕ) (indices starts picks : List ℕ) wh
     unfolding select_refusal select_refusals room
     room-decides = append-skip (list_refusals solutes indices) room (list-numbered solutes indices) none
 
-    module _ (r copies total : ℕ) (few : copies ≡ length (kept_copies solutes per indices)) (light : total ≡ length (picks_of (kept_copies solutes per indices))) (e : r ≡ first_refusal (room_refusals copies total (length starts) (length picks))) where
-      decided : r ≡ select_refusal solutes per indices starts picks
+    module _ (copies total : ℕ) (few : copies ≡ length (kept_copies solutes per indices)) (light : total ≡ length (picks_of (kept_copies solutes per indices))) where
+      decided : first_refusal (room_refusals copies total (length starts) (length picks)) ≡ select_refusal solutes per indices starts picks
       unfolding room
-      decided = e ∙ rw (few, light) (sym room-decides)
+      decided = rw (few, light) (sym room-decides)
 
-      pub refused-room : (r ≡ 0 → ⊥) → Answers (Refused r) starts picks
-      refused-room n = refused r decided n
+      pub refused-room : (e : Refused) → Err e ≡ answer_of (first_refusal (room_refusals copies total (length starts) (length picks))) → Answers (Err e) starts picks
+      refused-room e h = left e (h ∙ ap answer_of decided)
 
-      pub answered : r ≡ 0 → Answers (Kept copies total) (over (starts_of (kept_copies solutes per indices)) starts) (over (picks_of (kept_copies solutes per indices)) picks)
-      answered z = rw (few, light) (written (sym decided ∙ z))
+      pub answered : {u : ⊤} → Ok u ≡ answer_of (first_refusal (room_refusals copies total (length starts) (length picks)))
+          → Answers (Ok (record { copies = copies; picks = total })) (over (starts_of (kept_copies solutes per indices)) starts) (over (picks_of (kept_copies solutes per indices)) picks)
+      answered h = rw (few, light) (written (sym decided ∙ accepted-zero _ h))
 
   -- success by the tests, one at a time
   pub selected : ragged solutes ≡ false → (long solutes || ltb max_indices (length indices)) ≡ false → any_over max_coordinate solutes ≡ false → length (kept_copies solutes per indices) ≤ max_copies → length (picks_of (kept_copies solutes per indices)) ≤ max_picks
       → let cs = kept_copies solutes per indices in
-      (ltb (length starts) (length cs + 1) || ltb (length picks) (length (picks_of cs))) ≡ false → Answers (Kept (length cs) (length (picks_of cs))) (over (starts_of cs) starts) (over (picks_of cs) picks)
+      (ltb (length starts) (length cs + 1) || ltb (length picks) (length (picks_of cs))) ≡ false → Answers (Ok counted) (over (starts_of cs) starts) (over (picks_of cs) picks)
   unfolding first_refusal room_refusals room
   selected t1 t2 t3 few light t6 =
       let cs = kept_copies solutes per indices in

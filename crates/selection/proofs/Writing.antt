@@ -2,7 +2,7 @@
 -- Assumes nothing.
 use mathlib.Core.Path.{◌≡◌, refl, ap, ◌∙◌}
 use mathlib.Core.List.{List, [], ◌∷◌}
-use Prim.Native.Nat.{ℕ, suc, ◌+◌, ◌-◌, ◌/◌, ◌≤◌, ◌<◌}
+use Prim.Native.Nat.{ℕ, suc, ◌+◌, ◌*◌, ◌/◌, ◌≤◌, ◌<◌}
 use native.Mathlib.Omega.{arith}
 use lib.ListN.{length, set, length-set}
 use lib.Seq.{set-set, drop-set-lt}
@@ -10,7 +10,7 @@ use lib.Ieee.{Float}
 use Rattle.base.specs.Tables.{placed, over}
 use Rattle.base.proofs.Filling.{Filling, filling-first, filling-next, filling-append, filling-last}
 use Rattle.base.proofs.Placing.{placed-zero}
-use Rattle.selection.specs.Selection.{picked, picks_of, starts_from, starts_of}
+use Rattle.selection.specs.Selection.{picked, chunks, picks_of, starts_from, starts_of}
 use Rattle.selection.proofs.Copies.{copies_left, left-kept}
 
 -- where the picks of each copy end: the starts but the first
@@ -57,9 +57,9 @@ unfolding ends_from picks_of
 writing-next {p = p} z = record { ends = filling-next z.ends; room = simp length-set (omega (arith, z.room)); put = filling-append p z.put }
 
 -- a chunk of which something was picked has room for its end
-pub writing-room : {kept : List (List ℕ)} {starts₀ picks₀ : List ℕ} (xs : List Float) (per : ℕ) (is : List ℕ) (base : ℕ) {copies at end : ℕ} {starts picks : List ℕ} → Writing kept starts₀ picks₀ (copies_left xs per is base) copies at starts picks
-    → 0 < per → per ≤ length xs / 3 - base → end ≡ at + length (picked xs per is base) → at < end → copies + 1 < length starts
-writing-room xs per is base z some whole e h = omega (arith, z.room, ap length (left-kept xs per is base some whole (omega arith)))
+pub writing-room : {kept : List (List ℕ)} {starts₀ picks₀ : List ℕ} (xs : List Float) (per : ℕ) (is : List ℕ) (k : ℕ) {copies at end : ℕ} {starts picks : List ℕ} → Writing kept starts₀ picks₀ (copies_left xs per is k) copies at starts picks
+    → k < chunks per (length xs / 3) → end ≡ at + length (picked xs per is (k * per)) → at < end → copies + 1 < length starts
+writing-room xs per is k z there e h = omega (arith, z.room, ap length (left-kept xs per is k there (omega arith)))
 
 pub writing-last : {kept : List (List ℕ)} (starts₀ : List ℕ) {picks₀ : List ℕ} {copies at : ℕ} {starts picks : List ℕ} → Writing kept (set starts₀ 0 0) picks₀ [] copies at starts picks → (starts ≡ over (starts_of kept) starts₀) × (picks ≡ over (picks_of kept) picks₀)
 unfolding ends_from picks_of

@@ -1,12 +1,12 @@
 -- docs/RULES.md, 'Selection' and Select. Atoms are numbered among all solute atoms. Definitions only. Assumes nothing.
-use Rattle.std.specs.Prelude.{ℕ, zero, suc, ◌+◌, ◌/◌, cond, ◌&&◌, ◌||◌, List, [], ◌∷◌, ◌++◌, ltb, length, Float}
+use Rattle.std.specs.Prelude.{ℕ, zero, suc, ◌+◌, ◌/◌, cond, ◌&&◌, ◌||◌, List, [], ◌∷◌, ◌++◌, ltb, length, Float, Result, Ok, Err}
 use Rattle.base.specs.Limits.{max_copies, max_picks}
 use Rattle.frame_limits.specs.Limits.{lengths, counts, coordinates}
-use Rattle.base.specs.Refusals.{Refusal, refuse, first_refusal}
+use Rattle.base.specs.declared.Refused.{Refused}
+use Rattle.base.specs.Refusals.{Refusal, refuse, first_refusal, refused}
 use Rattle.base.specs.Tables.{over, unless_refused}
 use Rattle.pick_lists.specs.Sound.{finite_atom}
-use Rattle.selection.specs.declared.Selected.{Selected}
-use Rattle.selection.specs.declared.Selected.TheVariants.{Refused, Kept}
+use Rattle.selection.specs.declared.Counted.{Counted}
 
 -- the finite atoms among the n from number k on
 unfoldable pub finite_atoms : List Float → ℕ → ℕ → List ℕ
@@ -89,23 +89,18 @@ unfoldable pub select_refusal : List Float → ℕ → List ℕ → List ℕ →
 unfolding select_refusals first_refusal
 select_refusal solutes per indices starts picks = first_refusal (select_refusals solutes per indices starts picks)
 
--- what Select answers: the kept copies and the picks, or the refusal's number
-unfoldable pub select_answer : List Float → ℕ → List ℕ → List ℕ → List ℕ → Selected
+-- what Select answers: the kept copies and the picks, or the refusal
+unfoldable pub select_answer : List Float → ℕ → List ℕ → List ℕ → List ℕ → Result Counted Refused
 unfolding select_refusal kept_copies picks_of
 select_answer solutes per indices starts picks =
     let r = select_refusal solutes per indices starts picks in
     let cs = kept_copies solutes per indices in
-    unless_refused r (Kept (length cs) (length (picks_of cs))) (Refused r)
+    unless_refused r (Ok (record { copies = length cs; picks = length (picks_of cs) })) (refused r)
 
--- the number of each case of an answer: a refusal's own, 0 for success
-abbrev pub select_number : Selected → ℕ
-select_number (Refused n) = n
-select_number (Kept copies picks) = 0
-
--- the values of each case: none with a refusal, the kept copies and the picks with success
-abbrev pub select_values : Selected → List ℕ
-select_values (Refused n) = []
-select_values (Kept copies picks) = copies ∷ picks ∷ []
+-- the values of each case: the kept copies and the picks with success, none with a refusal
+abbrev pub select_values : Result Counted Refused → List ℕ
+select_values (Ok n) = n.copies ∷ n.picks ∷ []
+select_values (Err e) = []
 
 -- both tables afterwards
 unfoldable pub starts_after : List Float → ℕ → List ℕ → List ℕ → List ℕ → List ℕ

@@ -4,18 +4,11 @@
 
 ghost use Rattle.std.specs.Prelude.{◌≡◌, ◌+◌, ◌*◌, ◌≤◌, ◌<◌, length};
 ghost use Rattle.base.specs.Limits.{max_atoms, max_indices, max_picks};
-ghost use Rattle.base.specs.Refusals.{first_refusal};
+ghost use Rattle.base.specs.Refusals.{first_refusal, answer_of};
 ghost use Rattle.base.specs.Tables.{placed, over};
-ghost use Rattle.selection.specs.Selection.{finite_atoms, indexed, picked, kept_copies, picks_of, starts_of, list_refusals, room_refusals, select_answer, starts_after, picks_after};
+ghost use Rattle.selection.specs.Selection.{finite_atoms, indexed, picked, chunks, kept_copies, picks_of, starts_of, list_refusals, room_refusals, select_answer, starts_after, picks_after};
 
-use base::{MAX_COPIES, MAX_INDICES, MAX_PICKS};
-
-// What Select answers: a refusal by its number, or the kept copies and the picks.
-#[derive(Clone, Copy)]
-pub enum Selected {
-    Refused(u32),
-    Kept { copies: usize, picks: usize },
-}
+use base::{MAX_COPIES, MAX_INDICES, MAX_PICKS, Refused};
 
 // How many copies are kept, and how many atoms are picked in them.
 #[derive(Clone, Copy)]
@@ -24,17 +17,25 @@ pub struct Counted {
     pub picks: usize,
 }
 
+// How many whole chunks of `per` atoms there are: none where that is zero, and a trailing short one is dropped.
+fn chunks(atoms: usize, per: usize) -> usize
+    ensures { result ≡ chunks per atoms }
+{
+    atoms.checked_div(per).unwrap_or(0)
+}
+
+// Here and where they are written the indexed atoms and all atoms have a loop each: they differ in where an atom comes from, and one loop over an
+// iterator would be no plainer.
 fn count_indexed(xs: &[f32], per: usize, base: usize, indices: &[u32]) -> usize
     requires { (base + per) * 3 ≤ length xs.now }
     ensures { result ≡ length (indexed xs.now per base indices.now) }
 {
-    let mut n: usize = 0;
-    let mut j = 0;
-    while j < indices.len() {
-        if pick_lists::named(xs, per, base, indices[j] as usize) {
+    // A chain of `filter` and `count` takes half as long again.
+    let mut n = 0;
+    for &i in indices {
+        if pick_lists::named(xs, per, base, i as usize) {
             n += 1;
         }
-        j += 1;
     }
     n
 }
@@ -43,13 +44,11 @@ fn count_finite(xs: &[f32], per: usize, base: usize) -> usize
     requires { (base + per) * 3 ≤ length xs.now }
     ensures { result ≡ length (finite_atoms xs.now per base) }
 {
-    let mut n: usize = 0;
-    let mut k: usize = 0;
-    while k < per {
+    let mut n = 0;
+    for k in 0..per {
         if pick_lists::finite_atom(xs, base + k) {
             n += 1;
         }
-        k += 1;
     }
     n
 }
@@ -72,22 +71,15 @@ pub fn count(xs: &[f32], per: usize, indices: &[u32]) -> Counted
     requires { (length xs.now ≤ max_atoms * 3) × (length indices.now ≤ max_indices) }
     ensures { (result.copies ≡ length (kept_copies xs.now per indices.now)) × (result.picks ≡ length (picks_of (kept_copies xs.now per indices.now))) }
 {
-    let mut copies: usize = 0;
-    let mut picks: usize = 0;
-    // No atoms per copy: no chunk, and no division by it.
-    if per == 0 {
-        return Counted { copies, picks };
-    }
-    let atoms = xs.len() / 3;
-    let mut base: usize = 0;
-    while per <= atoms - base {
-        let n = count_copy(xs, per, base, indices);
+    let mut copies = 0;
+    let mut picks = 0;
+    for chunk in 0..chunks(xs.len() / 3, per) {
+        let n = count_copy(xs, per, chunk * per, indices);
         // A copy with no pick vanishes.
         if n > 0 {
             copies += 1;
         }
         picks += n;
-        base += per;
     }
     Counted { copies, picks }
 }
@@ -106,14 +98,11 @@ fn put_indexed(
     ensures picks_after { picks.new ≡ placed at (indexed xs.now per base indices.now) picks.old }
 {
     let mut end = at;
-    let mut j = 0;
-    while j < indices.len() {
-        let i = indices[j] as usize;
-        if pick_lists::named(xs, per, base, i) {
-            picks[end] = (base + i) as u32;
+    for &i in indices {
+        if pick_lists::named(xs, per, base, i as usize) {
+            picks[end] = base as u32 + i;
             end += 1;
         }
-        j += 1;
     }
     end
 }
@@ -125,14 +114,12 @@ fn put_finite(xs: &[f32], per: usize, base: usize, picks: &mut [u32], at: usize)
     ensures picks_after { picks.new ≡ placed at (finite_atoms xs.now per base) picks.old }
 {
     let mut end = at;
-    let mut k: usize = 0;
-    while k < per {
+    for k in 0..per {
         let atom = base + k;
         if pick_lists::finite_atom(xs, atom) {
             picks[end] = atom as u32;
             end += 1;
         }
-        k += 1;
     }
     end
 }
@@ -168,82 +155,67 @@ pub fn fill(xs: &[f32], per: usize, indices: &[u32], starts: &mut [u32], picks: 
 {
     // Where the first copy's picks start, and with no copies where they end.
     starts[0] = 0;
-    if per == 0 {
-        return;
-    }
-    let atoms = xs.len() / 3;
-    let mut base: usize = 0;
-    let mut copies: usize = 0;
-    let mut at: usize = 0;
-    while per <= atoms - base {
-        let end = put_copy(xs, per, base, indices, picks, at);
+    let mut copies = 0;
+    let mut at = 0;
+    for chunk in 0..chunks(xs.len() / 3, per) {
+        let end = put_copy(xs, per, chunk * per, indices, picks, at);
         // A vanished copy has no start of its own.
         if at < end {
             copies += 1;
             starts[copies] = end as u32;
             at = end;
         }
-        base += per;
     }
 }
 
-// The first of 1, 2 and 4 that holds, or 0.
-fn list_refusal(solutes: &[f32], indices: &[u32]) -> u32
-    ensures { result ≡ first_refusal (list_refusals solutes.now indices.now) }
+// The first of 1, 2 and 4 that holds.
+fn list_refusal(solutes: &[f32], indices: &[u32]) -> Result<(), Refused>
+    ensures { result ≡ answer_of (first_refusal (list_refusals solutes.now indices.now)) }
 {
     if frame_limits::ragged(solutes) {
-        return 1;
+        return Err(Refused::Ragged);
     }
     if frame_limits::long(solutes) | (indices.len() > MAX_INDICES) {
-        return 2;
+        return Err(Refused::Long);
     }
     if frame_limits::coordinate_over(solutes) {
-        return 4;
+        return Err(Refused::Coordinate);
     }
-    0
+    Ok(())
 }
 
-// The first of 5, 6 and 7 that holds, or 0, for these counts and tables of these lengths.
-fn room_refusal(n: Counted, start_room: usize, pick_room: usize) -> u32
-    ensures { result ≡ first_refusal (room_refusals n.copies n.picks start_room pick_room) }
+// The first of 5, 6 and 7 that holds, for these counts and tables of these lengths.
+fn room_refusal(n: Counted, start_room: usize, pick_room: usize) -> Result<(), Refused>
+    ensures { result ≡ answer_of (first_refusal (room_refusals n.copies n.picks start_room pick_room)) }
 {
     if n.copies > MAX_COPIES {
-        return 5;
+        return Err(Refused::Copies);
     }
     if n.picks > MAX_PICKS {
-        return 6;
+        return Err(Refused::Picks);
     }
     if (start_room < n.copies + 1) | (pick_room < n.picks) {
-        return 7;
+        return Err(Refused::Short);
     }
-    0
+    Ok(())
 }
 
-// Select: 1, 2, 4, 5, 6, 7 in this order, or both pick lists. `per` is the atoms per copy.
+// Select: 1, 2, 4, 5, 6, 7 in this order, or both pick lists, and how much is in them. `per` is the atoms per copy.
 pub fn select(
     solutes: &[f32],
     per: usize,
     indices: &[u32],
     starts: &mut [u32],
     picks: &mut [u32],
-) -> Selected
+) -> Result<Counted, Refused>
     ensures answer { result ≡ select_answer solutes.now per indices.now starts.old picks.old }
     ensures starts_after { starts.new ≡ starts_after solutes.now per indices.now starts.old picks.old }
     ensures picks_after { picks.new ≡ picks_after solutes.now per indices.now starts.old picks.old }
 {
-    let unfit = list_refusal(solutes, indices);
-    if unfit != 0 {
-        return Selected::Refused(unfit);
-    }
+    list_refusal(solutes, indices)?;
     // Both counts are known before the first write, so that a refusal leaves the tables.
     let n = count(solutes, per, indices);
-    let crowded = room_refusal(n, starts.len(), picks.len());
-    if crowded != 0 {
-        return Selected::Refused(crowded);
-    }
+    room_refusal(n, starts.len(), picks.len())?;
     fill(solutes, per, indices, starts, picks);
-    Selected::Kept {
-        copies: n.copies,
-        picks: n.picks,
-    }
+    Ok(n)
 }

@@ -16,10 +16,8 @@ pub fn all_below(words: &[u32], n: u32) -> bool
     ensures { result ≡ all_below (length words.now) (λ i. ltb (get_or words.now i 0) n) }
 {
     let mut all = true;
-    let mut i = 0;
-    while i < words.len() {
-        all = all & (words[i] < n);
-        i += 1;
+    for word in words {
+        all = all & (*word < n);
     }
     all
 }
@@ -64,12 +62,10 @@ fn shallow(parent: &[u32]) -> bool
     requires parent_len_bound { length parent.now ≤ max_copies }
     ensures { result ≡ all_below (length parent.now) (root_within parent.now 8) }
 {
-    let mut i = 0;
-    while i < parent.len() {
+    for i in 0..parent.len() {
         if !near_root(parent, i as u32) {
             return false;
         }
-        i += 1;
     }
     true
 }
@@ -102,12 +98,10 @@ fn all_end(parent: &[u32], seen: &mut [u16]) -> bool
     requires stamped { Stamped parent.now seen.old 0 }
     ensures { result ≡ all_below (length parent.now) (reaches_root parent.now) }
 {
-    let mut i = 0;
-    while i < parent.len() {
+    for i in 0..parent.len() {
         if !ends(parent, seen, i as u32) {
             return false;
         }
-        i += 1;
     }
     true
 }
@@ -117,12 +111,6 @@ pub fn is_sound(parent: &[u32]) -> bool
     requires { length parent.now ≤ max_copies }
     ensures { result ≡ sound_parents parent.now }
 {
-    if !all_below(parent, parent.len() as u32) {
-        return false;
-    }
-    if shallow(parent) {
-        return true;
-    }
-    let mut seen = [0u16; MAX_COPIES];
-    all_end(parent, &mut seen)
+    all_below(parent, parent.len() as u32)
+        && (shallow(parent) || all_end(parent, &mut [0; MAX_COPIES]))
 }

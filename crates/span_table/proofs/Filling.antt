@@ -1,8 +1,8 @@
 -- One axis of the span table, a copy at a time. Assumes nothing.
-use mathlib.Core.Path.{◌≡◌, refl, ◌∙◌}
+use mathlib.Core.Path.{◌≡◌, ◌∙◌}
 use mathlib.Core.Logic.{inl, inr}
 use mathlib.Core.List.{List}
-use Prim.Native.Nat.{ℕ, ◌+◌, ◌*◌, ◌≤◌, ◌<◌, zero-le}
+use Prim.Native.Nat.{ℕ, ◌+◌, ◌*◌, ◌≤◌, ◌<◌}
 use native.Mathlib.Nat.{eq-or-lt_of_le}
 use native.Mathlib.Omega.{arith}
 use lib.ListN.{length, get_or, set, length-set}
@@ -19,12 +19,6 @@ pub record Filled (low high : ℕ → Float) (at n : ℕ) (t₀ : List Float) (i
   pub past : (m : ℕ) → at + 2 * n ≤ m → get_or t m nan ≡ get_or t₀ m nan
 
 module _ (low high : ℕ → Float) (at n : ℕ) (t₀ : List Float) where
-  pub filled_none : Filled low high at n t₀ 0 t₀
-  filled_none = record { same = refl; most = zero-le; least = λ m l. absurd (none m l); greatest = λ m l. absurd (none m l); before = λ m l. refl; past = λ m l. refl }
-    where
-      none : (m : ℕ) → m < 0 → ⊥
-      none m l = omega arith
-
   module _ (i : ℕ) (t : List Float) (v w : Float) (fits : at + 2 * n ≤ length t₀) (l : i < n) (ev : v ≡ low i) (ew : w ≡ high i) (f : Filled low high at n t₀ i t) where
     abbrev t' : List Float
     t' = set (set t (at + i) v) (at + n + i) w

@@ -9,17 +9,23 @@ use native.Mathlib.Omega.{arith}
 use lib.ListN.{length, get_or, set, take, drop, get_or-append}
 use lib.Seq.{length-take-le, get_or-append-add}
 use lib.Ieee.{Float}
+use Rattle.std.specs.Int.{from_bool}
 use Rattle.base.specs.Tables.{placed}
 use Rattle.base.proofs.Filling.{Filling, filling-first, filling-next, filling-last}
-use Rattle.span_table.specs.declared.Marks.{Marks}
+use Rattle.spans.specs.declared.Span.{Span}
 use Rattle.span_table.specs.Inner.{apart_flag, flags_from, flags_after}
+
+-- a flag as a number
+pub flag-word : (t : Bool) → from_bool t ≡ cond t 1 0
+flag-word true = refl
+flag-word false = refl
 
 -- a flag that is not 0
 pub flagged : (t : Bool) (m : ℕ) → m ≡ cond t 1 0 → (m ≡ 0 → ⊥) → t ≡ true
 flagged true m e h = refl
 flagged false m e h = absurd (h e)
 
-module _ (g : Marks) (t : List Float) (n i : ℕ) where
+module _ (g : Span → Span → Bool) (t : List Float) (n i : ℕ) where
   flags-length : (k j : ℕ) → length (flags_from g t n i k j) ≡ k
   unfolding flags_from
   flags-length zero j = refl

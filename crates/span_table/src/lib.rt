@@ -10,12 +10,12 @@ ghost use Rattle.pick_lists.specs.Sound.{sound_lists, copies, pick_list};
 ghost use Rattle.pick_lists.specs.Input.{given};
 ghost use Rattle.touch.specs.Touch.{copies_touch};
 ghost use Rattle.gates.specs.Inner.{tested};
-ghost use Rattle.spans.specs.Inner.{least_of, greatest_of};
+ghost use Rattle.spans.specs.Inner.{least_of, greatest_of, apart_on};
 ghost use Rattle.span_table.specs.Inner.{span_at, Spans, SureMarks, apart_marks, flags_after};
 
 use cell::{Cell, Vec3};
-use gates::{Gates, TurnGates};
-use spans::{Span, apart, apart_turns, ends_of};
+use gates::{AxisTest, AxisTurns, Gate, PerAxis};
+use spans::{Span, ends_of};
 
 // One axis of the table: n least coordinates from entry `at` on, then n greatest ones.
 fn fill_axis(xs: &[f32], starts: &[u32], picks: &[u32], table: &mut [f32], at: usize, axis: usize)
@@ -27,12 +27,10 @@ fn fill_axis(xs: &[f32], starts: &[u32], picks: &[u32], table: &mut [f32], at: u
     ensures past { (m : ℕ) → at + 2 * copies starts.now ≤ m → get_or table.new m nan ≡ get_or table.old m nan }
 {
     let n = starts.len() - 1;
-    let mut i = 0;
-    while i < n {
+    for i in 0..n {
         let e = ends_of(xs, pick_lists::copy_picks(starts, picks, i), axis);
         table[at + i] = e.lo;
         table[at + n + i] = e.hi;
-        i += 1;
     }
 }
 
@@ -68,22 +66,11 @@ fn span_at(table: &[f32], n: usize, i: usize) -> Span
     }
 }
 
-// 1 for true.
-fn word(b: bool) -> u32
-    ensures { result ≡ cond b 1 0 }
-{
-    if b {
-        return 1;
-    }
-    0
-}
-
 // How the copies of a frame are told apart: by gates, or, where some stand over an extent apart, by the gates of many turns.
 #[derive(Clone, Copy)]
-pub struct Marks {
-    pub wide: bool,
-    pub g: Gates,
-    pub turns: TurnGates,
+pub enum Marks {
+    Gates(PerAxis<Gate>),
+    Turns(PerAxis<AxisTurns>),
 }
 
 // Whether some copy stands over an extent away from the first. It only chooses the quicker way, so that nothing is promised of it.
@@ -91,23 +78,10 @@ fn spread(e: Vec3, table: &[f32], n: usize) -> bool
     requires { (n ≤ max_copies) × (6 * n ≤ length table.now) }
 {
     let mut out = false;
-    let mut j = 0;
-    while j < n {
+    for j in 0..n {
         out = out | spans::outside(e, span_at(table, n, 0), span_at(table, n, j));
-        j += 1;
     }
     out
-}
-
-// How many turns are tested at most: one for every fourth copy, a small part of the time that the marks take.
-fn most_turns(wide: bool, n: usize) -> u32
-    requires { n ≤ max_copies }
-    ensures { result ≤ 32768 }
-{
-    if wide {
-        return base::word(1 + n / 4);
-    }
-    0
 }
 
 // The marks of the cell at the cutoff, for the copies of the table.
@@ -116,34 +90,34 @@ pub fn marks_of(cell: Cell, cutoff: f32, table: &[f32], n: usize) -> Marks
     ensures { SureMarks cutoff (extent_of cell) result }
 {
     let e = cell::extent(cell);
-    let wide = spread(e, table, n);
-    Marks {
-        wide: wide,
-        g: gates::gates_of(cell, cutoff),
-        turns: gates::turns_of(e, cutoff, most_turns(wide, n)),
+    if spread(e, table, n) {
+        // One turn at most for every fourth copy: a small part of the time that the marks take.
+        Marks::Turns(gates::turns_of(e, cutoff, (1 + n / 4) as u32))
+    } else {
+        Marks::Gates(gates::gates_of(cell, cutoff))
     }
 }
 
-// Whether the boxes are kept apart.
-fn kept_apart(g: Marks, b: Span, c: Span) -> bool
-    ensures { result ≡ apart_marks g b c }
-{
-    if g.wide {
-        return apart_turns(g.turns, b, c);
-    }
-    apart(g.g, b, c)
-}
-
-// Which later copies are kept apart from copy i: 1 at j, or 0; the other flags keep their values. The loop has no branch.
-pub fn mark_apart(g: Marks, table: &[f32], flags: &mut [u32], n: usize, i: usize)
+// Which later copies the tests of the axes keep apart from copy i: 1 at j, or 0; the other flags keep their values. The loop has no branch.
+fn mark_by<T: AxisTest>(g: PerAxis<T>, table: &[f32], flags: &mut [u32], n: usize, i: usize)
     requires { (n ≤ max_copies) × (i < n) × (6 * n ≤ length table.now) × (n ≤ length flags.old) }
-    ensures { flags.new ≡ flags_after g table.now n i flags.old }
+    ensures { flags.new ≡ flags_after (apart_on T.rejects g) table.now n i flags.old }
 {
     let b = span_at(table, n, i);
-    let mut j = i + 1;
-    while j < n {
-        flags[j] = word(kept_apart(g, b, span_at(table, n, j)));
-        j += 1;
+    for j in i + 1..n {
+        flags[j] = u32::from(spans::apart(g, b, span_at(table, n, j)));
+    }
+}
+
+// The same by the marks.
+#[tactic(auto, unfolding(crate::specs::Inner::apart_marks))]
+pub fn mark_apart(g: Marks, table: &[f32], flags: &mut [u32], n: usize, i: usize)
+    requires { (n ≤ max_copies) × (i < n) × (6 * n ≤ length table.now) × (n ≤ length flags.old) }
+    ensures { flags.new ≡ flags_after (apart_marks g) table.now n i flags.old }
+{
+    match g {
+        Marks::Gates(g) => mark_by(g, table, flags, n, i),
+        Marks::Turns(g) => mark_by(g, table, flags, n, i),
     }
 }
 

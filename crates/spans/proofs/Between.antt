@@ -22,14 +22,15 @@ use Rattle.pick_lists.proofs.SoundLists.{sound-lists}
 use Rattle.pick_lists.proofs.CopyPicks.{copy_some, copy-finite}
 use Rattle.touch.specs.Touch.{near, any_in, any_pair, copies_touch}
 use Rattle.touch.proofs.Any.{any_none}
-use Rattle.gates.specs.declared.Gates.{Gates}
-use Rattle.gates.specs.declared.Screen.{Screen}
-use Rattle.gates.specs.declared.TurnGates.{TurnGates}
-use Rattle.gates.specs.Inner.{gates_of, far_of, rejects_of, screen_of, far_turns, SureTurns, tested}
+use Rattle.gates.specs.declared.AxisTurns.{AxisTurns}
+use Rattle.gates.specs.declared.Gate.{Gate}
+use Rattle.gates.specs.declared.PerAxis.{PerAxis}
+use Rattle.gates.specs.declared.AxisImages.{AxisImages}
+use Rattle.gates.specs.Inner.{gates_of, far_of, by_images, images_of, far_turns, SureTurns, tested}
 use Rattle.floats.proofs.Order.{le-refl-finite}
 use Rattle.gates.proofs.Axes.{tested-is, tested-axes, tested-atom}
 use Rattle.gates.proofs.Sure.{Apart}
-use Rattle.gates.proofs.Rejection.{Rejects, gate-rejects, screen-rejects, turns-rejects}
+use Rattle.gates.proofs.Rejection.{Rejects, gate-rejects, images-rejects, turns-rejects}
 use Rattle.gates.proofs.Atoms.{apart-x, apart-y, apart-z}
 use Rattle.spans.specs.declared.Span.{Span}
 use Rattle.spans.specs.Inner.{coordinate, least_of, greatest_of, span_of, apart_by}
@@ -118,7 +119,7 @@ module _ (c : Cell) (k : Float) (xs : List Float) (h : tested c k xs ≡ true) w
       (axis-apart k e.z b.low.z (point_at xs p).z b.high.z s.low.z (point_at xs q).z s.high.z z R.on-z P.on-z Q.on-z)
 
   -- ---- the tests of crate `gates`
-  pub gates-tests : (g : Gates) → g ≡ gates_of k (extent_of c) → Tests k (extent_of c) (far_of g.x) (far_of g.y) (far_of g.z)
+  pub gates-tests : (g : PerAxis Gate) → g ≡ gates_of k (extent_of c) → Tests k (extent_of c) (far_of g.x) (far_of g.y) (far_of g.z)
   unfolding gates_of
   gates-tests g is =
       let e = extent_of c in
@@ -126,16 +127,14 @@ module _ (c : Cell) (k : Float) (xs : List Float) (h : tested c k xs ≡ true) w
       let E = tested-axes c k xs h in
       rw is (record { on-x = gate-rejects k e.x K E.on-x; on-y = gate-rejects k e.y K E.on-y; on-z = gate-rejects k e.z K E.on-z })
 
-  pub screen-tests : (s : Screen) (w : Bool) → s ≡ screen_of w k (extent_of c)
-      → Tests k (extent_of c) (rejects_of s.wide s.cutoff s.e.x s.g.x) (rejects_of s.wide s.cutoff s.e.y s.g.y) (rejects_of s.wide s.cutoff s.e.z s.g.z)
-  unfolding screen_of gates_of
-  screen-tests s w is =
+  pub images-tests : (s : PerAxis AxisImages) → s ≡ images_of k (extent_of c) → Tests k (extent_of c) (by_images s.x) (by_images s.y) (by_images s.z)
+  images-tests s is =
       let e = extent_of c in
       let K = (tested-is c k xs h).reach in
       let E = tested-axes c k xs h in
-      rw is (record { on-x = screen-rejects k e.x K E.on-x w; on-y = screen-rejects k e.y K E.on-y w; on-z = screen-rejects k e.z K E.on-z w })
+      rw is (record { on-x = images-rejects k e.x K E.on-x; on-y = images-rejects k e.y K E.on-y; on-z = images-rejects k e.z K E.on-z })
 
-  pub turns-tests : (s : TurnGates) → SureTurns k (extent_of c) s → Tests k (extent_of c) (far_turns s.x) (far_turns s.y) (far_turns s.z)
+  pub turns-tests : (s : PerAxis AxisTurns) → SureTurns k (extent_of c) s → Tests k (extent_of c) (far_turns s.x) (far_turns s.y) (far_turns s.z)
   turns-tests s sure =
       let e = extent_of c in
       let K = (tested-is c k xs h).reach in

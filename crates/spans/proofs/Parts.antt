@@ -1,31 +1,21 @@
--- The part of a list from a pick on: it is not empty, and no longer than the list, and its picks are picks of the list; and the
--- level of two boxes, from what its extent and its first box are equal to. Assumes nothing.
-use mathlib.Core.Path.{◌≡◌, ◌∙◌}
-use mathlib.Core.List.{List}
-use Prim.Native.Nat.{ℕ, ◌+◌, ◌≤◌, ◌<◌}
+-- What is left of a list from a pick on, or after a part: its picks are picks of the list. Assumes nothing.
+use mathlib.Core.Path.{◌≡◌}
+use mathlib.Core.List.{List, ◌++◌}
+use Prim.Native.Nat.{ℕ, ◌+◌, ◌-◌, ◌<◌}
 use native.Mathlib.Omega.{arith}
+use lib.ListN.{length, get_or, take, drop, length-drop, length-append}
+use lib.Seq.{get_or-drop, get_or-append-add}
+use Rattle.std.proofs.lemmas.List.{take_rest}
 use lib.Ieee.{Float}
-use lib.ListN.{length, get_or, drop, length-take, length-drop}
-use lib.Seq.{get_or-take, get_or-drop}
-use Rattle.cell.specs.declared.Vec3.{Vec3}
-use Rattle.spans.specs.declared.Span.{Span}
-use Rattle.spans.specs.declared.Level.{Level}
-use Rattle.spans.specs.Inner.{level_of, part_of, FinitePicks}
+use Rattle.spans.specs.Inner.{FinitePicks}
 
-module _ (ps : List ℕ) (k : ℕ) where
-  pub part-some : k < length ps → 0 < length (part_of ps k)
-  part-some h = simp (length-take, length-drop) (omega arith)
+-- pick i of what is left from pick k on
+pub rest-at : (ps : List ℕ) (k i : ℕ) → i < length (take (length ps - k) (drop k ps)) → (k + i < length ps) × (get_or (take (length ps - k) (drop k ps)) i 0 ≡ get_or ps (k + i) 0)
+rest-at ps k i =
+    rw take_rest (λ h. (omega (arith, length-drop k ps), get_or-drop k ps i 0))
 
-  pub part-few : length (part_of ps k) ≤ length ps
-  part-few = simp (length-take, length-drop) (omega arith)
-
-  at : (m : ℕ) → m < length (part_of ps k) → get_or (part_of ps k) m 0 ≡ get_or ps (k + m) 0
-  at m h =
-      let n : m < 64 = omega (arith, length-take 64 (drop k ps)) in
-      get_or-take 64 (drop k ps) m 0 n ∙ get_or-drop k ps m 0
-
-  pub part-finite : (xs : List Float) → FinitePicks xs ps → FinitePicks xs (part_of ps k)
-  part-finite xs all m h = rw (at m h) (all (k + m) (omega (arith, length-take 64 (drop k ps), length-drop k ps)))
-
-pub level_by : {l : Level} {e d : Vec3} {s t : Span} (c : Span) → l ≡ level_of e s c → e ≡ d → s ≡ t → l ≡ level_of d t c
-level_by c p q r = cc
+-- what is left of a list after a part of it
+pub finite-rest : (xs : List Float) {all : List ℕ} (ps rest : List ℕ) → all ≡ ps ++ rest → FinitePicks xs all → FinitePicks xs rest
+finite-rest xs {all} ps rest is finite k h =
+    let n : length all ≡ length ps + length rest = rw is (length-append ps rest) in
+    rw (is, get_or-append-add ps rest k 0) at (finite (length ps + k) (omega arith))

@@ -1,18 +1,18 @@
 -- Boxes around the picks of a copy, when two boxes are kept apart, and when all separations from one to the other take off the same number of extents. Lengths are in angstrom.
 -- Definitions only. Assumes nothing.
-use Rattle.std.specs.Prelude.{◌≡◌, Bool, true, not, ◌&&◌, ◌||◌, cond, List, [], ◌∷◌, ℕ, zero, suc, ◌+◌, ◌*◌, ◌<◌, length, get_or, take, drop, Float}
+use Rattle.std.specs.Prelude.{◌≡◌, Bool, true, not, ◌&&◌, ◌||◌, cond, List, [], ◌∷◌, ℕ, zero, suc, ◌+◌, ◌*◌, ◌<◌, length, get_or, Float}
 use Rattle.std.specs.Float.{nan, binary32}
 use Rattle.std.specs.Float.Ieee.{neg, sub, mul, lt, le}
 use Rattle.floats.specs.Constants.{zero32}
 use Rattle.cell.specs.declared.Vec3.{Vec3}
 use Rattle.cell.specs.Cell.{image_axis, squared, minus, distance2, point_at, finite_point}
 use Rattle.pick_lists.specs.Sound.{pick_list}
-use Rattle.gates.specs.declared.Gates.{Gates}
-use Rattle.gates.specs.declared.Screen.{Screen}
-use Rattle.gates.specs.declared.TurnGates.{TurnGates}
+use Rattle.gates.specs.declared.AxisTurns.{AxisTurns}
+use Rattle.gates.specs.declared.Gate.{Gate}
+use Rattle.gates.specs.declared.PerAxis.{PerAxis}
 use Rattle.touch.specs.Touch.{cutoff2}
 use Rattle.floats.specs.Order.{larger, smaller}
-use Rattle.gates.specs.Inner.{turns_of, far_of, rejects_of, far_turns}
+use Rattle.gates.specs.Inner.{turns_of, far_of, far_turns}
 use Rattle.spans.specs.declared.Span.{Span}
 use Rattle.spans.specs.declared.Level.{Level}
 
@@ -59,21 +59,21 @@ apart_by x y z b c =
     || (y (sub binary32 c.low.y b.high.y) (sub binary32 c.high.y b.low.y)
     || z (sub binary32 c.low.z b.high.z) (sub binary32 c.high.z b.low.z))
 
+-- by what each axis has for its test
+abbrev pub apart_on : {A : Type 0} → (A → Float → Float → Bool) → PerAxis A → Span → Span → Bool
+apart_on f g = apart_by (f g.x) (f g.y) (f g.z)
+
 -- by gates
-abbrev pub apart_of : Gates → Span → Span → Bool
-apart_of g = apart_by (far_of g.x) (far_of g.y) (far_of g.z)
+abbrev pub apart_of : PerAxis Gate → Span → Span → Bool
+apart_of = apart_on far_of
 
 -- by the gates of many turns
-abbrev pub apart_turns : TurnGates → Span → Span → Bool
-apart_turns s = apart_by (far_turns s.x) (far_turns s.y) (far_turns s.z)
+abbrev pub apart_turns : PerAxis AxisTurns → Span → Span → Bool
+apart_turns = apart_on far_turns
 
--- by a screen
-abbrev pub apart_screen : Screen → Span → Span → Bool
-apart_screen s = apart_by (rejects_of s.wide s.cutoff s.e.x s.g.x) (rejects_of s.wide s.cutoff s.e.y s.g.y) (rejects_of s.wide s.cutoff s.e.z s.g.z)
-
--- a screen keeps copy j apart from the box b
-abbrev pub apart_from : Screen → List Float → List ℕ → List ℕ → Span → ℕ → Bool
-apart_from s xs starts picks b j = apart_screen s b (span_of xs (pick_list starts picks j))
+-- a test keeps copy j apart from the box b
+abbrev pub apart_from : (Span → Span → Bool) → List Float → List ℕ → List ℕ → Span → ℕ → Bool
+apart_from f xs starts picks b j = f b (span_of xs (pick_list starts picks j))
 
 -- the boxes stand over an extent apart on some axis
 unfoldable pub outside_of : Vec3 → Span → Span → Bool
@@ -133,11 +133,6 @@ near_on k e l p q = cond (l.x && (l.y && l.z)) (le (squared (minus (minus q p) l
 unfoldable pub first_past : (ℕ → Bool) → ℕ → ℕ → ℕ
 first_past f zero j = j
 first_past f (suc k) j = cond (f j) (first_past f k (suc j)) j
-
--- ---- lists in parts
--- the part from pick k on
-abbrev pub part_of : List ℕ → ℕ → List ℕ
-part_of ps k = take 64 (drop k ps)
 
 -- each pick names a finite atom
 abbrev pub FinitePicks : List Float → List ℕ → Type 0

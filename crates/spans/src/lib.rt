@@ -4,19 +4,19 @@
 #![tactic(auto)]
 
 ghost use Rattle.std.specs.Prelude.{◌≡◌, true, cond, [], ℕ, ◌+◌, ◌-◌, ◌*◌, ◌<◌, ◌≤◌, length, get_or};
-ghost use Rattle.base.specs.Limits.{max_picks};
 ghost use Rattle.cell.specs.Cell.{extent_of, point_at, finite_point};
 ghost use Rattle.pick_lists.specs.Sound.{sound_lists, copies, pick_list};
 ghost use Rattle.pick_lists.specs.Input.{given};
 ghost use Rattle.touch.specs.Touch.{near as near_of, any_pair, copies_touch};
 ghost use Rattle.gates.specs.Inner.{tested};
-ghost use Rattle.spans.specs.Inner.{coordinate as coordinate_of, least_of, greatest_of, span_of, apart_of, apart_turns, outside_of, level_axis, level_of, clear_by, passed_over, over_axis, near_by, near_on, apart_screen, apart_from, first_past, part_of, FinitePicks};
+ghost use Rattle.spans.specs.Inner.{coordinate as coordinate_of, least_of, greatest_of, span_of, apart_on, outside_of, level_axis, level_of, clear_by, passed_over, over_axis, near_by, near_on, apart_from, first_past, FinitePicks};
 
 use cell::{Cell, Vec3};
-use gates::{Gates, Screen, TurnGates};
+use gates::{AxisTest, PerAxis};
 
 // ---- the box of some picks
 
+// An axis is a number and not an enum: it is added into an index.
 fn coordinate(xs: &[f32], p: u32, axis: usize) -> f32
     requires { (p * 3 + 2 < length xs.now) × (axis < 3) }
     ensures { result ≡ coordinate_of xs.now axis p }
@@ -39,14 +39,12 @@ pub fn ends_of(xs: &[f32], a: &[u32], axis: usize) -> Ends
 {
     let mut lo = coordinate(xs, a[0], axis);
     let mut hi = lo;
-    let mut k = 1;
-    while k < a.len() {
-        let v = coordinate(xs, a[k], axis);
+    for p in &a[1..] {
+        let v = coordinate(xs, *p, axis);
         lo = numbers::order::smaller(lo, v);
         hi = numbers::order::larger(hi, v);
-        k += 1;
     }
-    Ends { lo: lo, hi: hi }
+    Ends { lo, hi }
 }
 
 // ---- two boxes
@@ -57,22 +55,14 @@ pub struct Span {
     pub high: Vec3,
 }
 
-// Whether a gate keeps the boxes apart on some axis. All three are worked out, so that no branch turns on one of them.
-pub fn apart(g: Gates, b: Span, c: Span) -> bool
-    ensures { result ≡ apart_of g b c }
+// Whether the test of some axis keeps the boxes apart. All three are worked out, so that no branch turns on one of them.
+#[tactic(auto, unfolding(crate::specs::Inner::apart_by))]
+pub fn apart<T: AxisTest>(g: PerAxis<T>, b: Span, c: Span) -> bool
+    ensures { result ≡ apart_on T.rejects g b c }
 {
-    gates::far(g.x, c.low.x - b.high.x, c.high.x - b.low.x)
-        | (gates::far(g.y, c.low.y - b.high.y, c.high.y - b.low.y)
-            | gates::far(g.z, c.low.z - b.high.z, c.high.z - b.low.z))
-}
-
-// The same by the gates of many turns.
-pub fn apart_turns(s: TurnGates, b: Span, c: Span) -> bool
-    ensures { result ≡ apart_turns s b c }
-{
-    gates::far_turns(s.x, c.low.x - b.high.x, c.high.x - b.low.x)
-        | (gates::far_turns(s.y, c.low.y - b.high.y, c.high.y - b.low.y)
-            | gates::far_turns(s.z, c.low.z - b.high.z, c.high.z - b.low.z))
+    g.x.far(c.low.x - b.high.x, c.high.x - b.low.x)
+        | (g.y.far(c.low.y - b.high.y, c.high.y - b.low.y)
+            | g.z.far(c.low.z - b.high.z, c.high.z - b.low.z))
 }
 
 // Whether the boxes stand over an extent apart, where gates say nothing.
@@ -185,7 +175,7 @@ fn begin(cutoff: f32, level: Level, p: Vec3, c: Span, end: usize) -> usize
 }
 
 // Whether some pick of a and some pick of b, which lie in the box c, are near at the cutoff. A pick that is far from the box is passed over. The search
-// leaves both lists at the first near pair.
+// leaves both lists at the first near pair, by the label that document 01 has for it.
 pub fn lists_touch(
     cell: Cell,
     cutoff: f32,
@@ -195,24 +185,21 @@ pub fn lists_touch(
     b: &[u32],
     c: Span,
 ) -> bool
-    requires xs_value { (tested cell cutoff xs.now ≡ true) × (level ≡ level_of (extent_of cell) (span_of xs.now a.now) c) × (c ≡ span_of xs.now b.now) × (0 < length b.now) × (length b.now ≤ max_picks) }
+    requires xs_value { (tested cell cutoff xs.now ≡ true) × (level ≡ level_of (extent_of cell) (span_of xs.now a.now) c) × (c ≡ span_of xs.now b.now) × (0 < length b.now) }
     requires finite_picks { FinitePicks xs.now a.now × FinitePicks xs.now b.now }
     ensures { result ≡ any_pair (near_of cutoff (extent_of cell) xs.now) a.now b.now }
 {
     let e = cell::extent(cell);
     let mut found = false;
-    let mut i = 0;
-    'pairs: while i < a.len() {
-        let p = cell::point(xs, base::wide(a[i]));
-        let mut j = begin(cutoff, level, p, c, b.len());
-        while j < b.len() {
-            if near_on(cutoff, e, level, p, cell::point(xs, base::wide(b[j]))) {
+    'pairs: for i in a {
+        let p = cell::point(xs, *i as usize);
+        let first = begin(cutoff, level, p, c, b.len());
+        for j in &b[first..] {
+            if near_on(cutoff, e, level, p, cell::point(xs, *j as usize)) {
                 found = true;
                 break 'pairs;
             }
-            j += 1;
         }
-        i += 1;
     }
     found
 }
@@ -242,68 +229,59 @@ pub fn span_of(xs: &[f32], a: &[u32]) -> Span
     }
 }
 
-// Whether the screen keeps the box s and the box of the picks b apart. An axis is worked out only where those before it do not decide.
-fn spans_apart(g: Screen, xs: &[f32], b: &[u32], s: Span) -> bool
+// Whether the test of some axis keeps the box s and the box of the picks b apart. An axis is worked out only where those before it do not decide.
+fn spans_apart<T: AxisTest>(g: PerAxis<T>, xs: &[f32], b: &[u32], s: Span) -> bool
     requires b_nonzero { 0 < length b.now }
     requires by_index { (k : ℕ) → k < length b.now → get_or b.now k 0 * 3 + 2 < length xs.now }
-    ensures { result ≡ apart_screen g s (span_of xs.now b.now) }
+    ensures { result ≡ apart_on T.rejects g s (span_of xs.now b.now) }
 {
     let x = ends_of(xs, b, 0);
-    if gates::rejects(
-        g.wide,
-        g.cutoff,
-        g.e.x,
-        g.g.x,
-        x.lo - s.high.x,
-        x.hi - s.low.x,
-    ) {
+    if g.x.far(x.lo - s.high.x, x.hi - s.low.x) {
         return true;
     }
     let y = ends_of(xs, b, 1);
-    if gates::rejects(
-        g.wide,
-        g.cutoff,
-        g.e.y,
-        g.g.y,
-        y.lo - s.high.y,
-        y.hi - s.low.y,
-    ) {
+    if g.y.far(y.lo - s.high.y, y.hi - s.low.y) {
         return true;
     }
     let z = ends_of(xs, b, 2);
-    gates::rejects(
-        g.wide,
-        g.cutoff,
-        g.e.z,
-        g.g.z,
-        z.lo - s.high.z,
-        z.hi - s.low.z,
-    )
+    g.z.far(z.lo - s.high.z, z.hi - s.low.z)
 }
 
-// Whether the screen keeps the box s and the box of copy j of sound pick lists apart.
-fn row_apart(g: Screen, xs: &[f32], starts: &[u32], picks: &[u32], s: Span, j: usize) -> bool
+// Whether the test of some axis keeps the box s and the box of copy j of sound pick lists apart.
+fn row_apart<T: AxisTest>(
+    g: PerAxis<T>,
+    xs: &[f32],
+    starts: &[u32],
+    picks: &[u32],
+    s: Span,
+    j: usize,
+) -> bool
     requires picks_value { sound_lists xs.now starts.now picks.now ≡ true }
     requires j_bound { j < copies starts.now }
-    ensures { result ≡ apart_from g xs.now starts.now picks.now s j }
+    ensures { result ≡ apart_from (apart_on T.rejects g) xs.now starts.now picks.now s j }
 {
     spans_apart(g, xs, pick_lists::copy_picks(starts, picks, j), s)
 }
 
-// The first copy from j on that the screen does not keep apart from the box s, or the number of copies. A loop of its own, so that what follows such a
+// The first copy from j on that no axis keeps apart from the box s, or the number of copies. A loop of its own, so that what follows such a
 // copy takes none of its registers.
-pub fn next_close(g: Screen, xs: &[f32], starts: &[u32], picks: &[u32], s: Span, j: usize) -> usize
+pub fn next_close<T: AxisTest>(
+    g: PerAxis<T>,
+    xs: &[f32],
+    starts: &[u32],
+    picks: &[u32],
+    s: Span,
+    j: usize,
+) -> usize
     requires picks_value { sound_lists xs.now starts.now picks.now ≡ true }
     requires j_bound { j ≤ copies starts.now }
-    ensures { result ≡ first_past (apart_from g xs.now starts.now picks.now s) (copies starts.now - j) j }
+    ensures { result ≡ first_past (apart_from (apart_on T.rejects g) xs.now starts.now picks.now s) (copies starts.now - j) j }
 {
     let n = starts.len() - 1;
-    let mut k = j;
-    while k < n {
+    for k in j..n {
         if !row_apart(g, xs, starts, picks, s, k) {
             return k;
         }
-        k += 1;
     }
     n
 }
@@ -322,50 +300,32 @@ pub fn copy_span(xs: &[f32], starts: &[u32], picks: &[u32], j: usize) -> Span
 // How many picks a part has. The box of a long list is large, and few picks are far from it; the boxes of its parts are smaller.
 const PART: usize = 64;
 
-// The part of a list from pick k on.
-fn part_of(a: &[u32], k: usize) -> &[u32]
-    requires { k < length a.now }
-    ensures { result.now ≡ part_of a.now k }
-{
-    if a.len() - k <= PART {
-        return &a[k..];
-    }
-    let end = k + PART;
-    &a[k..end]
-}
-
 // Whether some pick of a, which lie in the box s, and some pick of b are near at the cutoff: by the parts of b.
 fn part_touch(cell: Cell, cutoff: f32, xs: &[f32], a: &[u32], s: Span, b: &[u32]) -> bool
-    requires xs_value { (tested cell cutoff xs.now ≡ true) × (s ≡ span_of xs.now a.now) × (length b.now ≤ max_picks) }
+    requires xs_value { (tested cell cutoff xs.now ≡ true) × (s ≡ span_of xs.now a.now) }
     requires finite_picks { FinitePicks xs.now a.now × FinitePicks xs.now b.now }
     ensures { result ≡ any_pair (near_of cutoff (extent_of cell) xs.now) a.now b.now }
 {
     let e = cell::extent(cell);
-    let mut j = 0;
-    while j < b.len() {
-        let q = part_of(b, j);
+    for q in b.chunks(PART) {
         let c = span_of(xs, q);
         if lists_touch(cell, cutoff, level_of(e, s, c), xs, a, q, c) {
             return true;
         }
-        j += PART;
     }
     false
 }
 
 // The same by the parts of both lists.
 fn parts_touch(cell: Cell, cutoff: f32, xs: &[f32], a: &[u32], b: &[u32]) -> bool
-    requires xs_value { (tested cell cutoff xs.now ≡ true) × (length a.now ≤ max_picks) × (length b.now ≤ max_picks) }
+    requires xs_value { tested cell cutoff xs.now ≡ true }
     requires finite_picks { FinitePicks xs.now a.now × FinitePicks xs.now b.now }
     ensures { result ≡ any_pair (near_of cutoff (extent_of cell) xs.now) a.now b.now }
 {
-    let mut i = 0;
-    while i < a.len() {
-        let p = part_of(a, i);
+    for p in a.chunks(PART) {
         if part_touch(cell, cutoff, xs, p, span_of(xs, p), b) {
             return true;
         }
-        i += PART;
     }
     false
 }
@@ -373,7 +333,7 @@ fn parts_touch(cell: Cell, cutoff: f32, xs: &[f32], a: &[u32], b: &[u32]) -> boo
 // The same for lists in the boxes s and c. Two lists of one part each have these boxes already.
 fn boxed_touch(cell: Cell, cutoff: f32, xs: &[f32], a: &[u32], b: &[u32], s: Span, c: Span) -> bool
     requires xs_value { (tested cell cutoff xs.now ≡ true) × (s ≡ span_of xs.now a.now) × (c ≡ span_of xs.now b.now) }
-    requires a_len_bound { (length a.now ≤ max_picks) × (0 < length b.now) × (length b.now ≤ max_picks) }
+    requires b_nonzero { 0 < length b.now }
     requires finite_picks { FinitePicks xs.now a.now × FinitePicks xs.now b.now }
     ensures { result ≡ any_pair (near_of cutoff (extent_of cell) xs.now) a.now b.now }
 {

@@ -1,6 +1,6 @@
 -- docs/RULES.md, 'Checked frames': the starred ones, by one statement for the lot. Floats are given by their bits; points and cells are
 -- alike on the three axes. Definitions only. Assumes nothing.
-use Rattle.std.specs.Prelude.{◌≡◌, true, false, List, [], ◌∷◌, ℕ, zero, suc, Float}
+use Rattle.std.specs.Prelude.{◌≡◌, true, false, List, [], ◌∷◌, ℕ, zero, suc, Float, Ok, None}
 use Rattle.std.specs.Float.{binary32}
 use Rattle.std.specs.Float.Ieee.{of_bits, to_bits}
 use Rattle.floats.specs.Root.{sqrt_of}
@@ -13,7 +13,6 @@ use Rattle.pick_lists.specs.Sound.{copies}
 use Rattle.pick_lists.specs.Input.{given}
 use Rattle.dispersion.specs.Dispersion.{dispersion_of}
 use Rattle.leaf.specs.Leaf.{reference_volume, partition_score}
-use Rattle.mixing.specs.declared.FrameAnswer.TheVariants.{Blank}
 use Rattle.mixing.specs.Frame.{Frame, FrameTables, frame_of, limited, frame_answer, frame_after}
 
 -- b on each axis, and the cell from 0 to b
@@ -34,7 +33,7 @@ WithinLimits f = first_refusal (limited f) ≡ 0
 
 -- the whole frame answers blank and leaves the lent tables untouched, whatever they are
 abbrev pub AnswersBlank : Frame → Type 0
-AnswersBlank f = (t : FrameTables) → (frame_answer f t ≡ Blank) × (frame_after f t ≡ t)
+AnswersBlank f = (t : FrameTables) → (frame_answer f t ≡ Ok None) × (frame_after f t ≡ t)
 
 pub record Starred : Type 0 where
   -- cell 0..10: -2 ^ -40 wraps to 10, and 10 wraps to 0

@@ -1,5 +1,5 @@
 -- The laws that the proofs of this crate cite.
--- how many digits a number has, found one division at a time
+-- how many digits a number has
 pub mod Numerals
 -- a word written with the byte after it, and digits backwards
 pub mod Writing

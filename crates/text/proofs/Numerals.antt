@@ -1,6 +1,8 @@
--- How many digits a number has, found one division at a time, and how many are written.
+-- How many digits a number has, between two powers of ten, and how many are written.
 -- Assumes nothing.
-use mathlib.Core.Path.{◌≡◌, refl, sym, ap}
+use mathlib.Core.Path.{◌≡◌, refl, sym}
+use Rattle.std.proofs.Common.{max}
+use native.Mathlib.Nat.{one-le-pow}
 use mathlib.Core.Bool.{Bool, true, false, cond}
 use mathlib.Core.List.{[], ◌∷◌, ◌++◌}
 use Prim.Native.Nat.{ℕ, zero, suc, ◌+◌, ◌-◌, ◌*◌, ◌/◌, ◌%◌, ◌^◌, ◌≤◌, ◌<◌}
@@ -10,32 +12,23 @@ use lib.ListN.{length, length-append}
 use borrow.Author.Tests.{lt-ltb, le-ltb}
 use Rattle.text.specs.Text.{glyph, digits, places_in, places}
 
--- ten, multiplied j times
-abbrev tens : ℕ → ℕ
-tens zero = 1
-tens (suc j) = 10 * tens j
-
--- one division more changes nothing where n has no more digits
-settled : (f n : ℕ) → n < tens (suc f) → places_in (suc f) n ≡ places_in f n
+-- a number between two powers of ten
+between : (f k n : ℕ) → k ≤ f → 10 ^ k ≤ n → n < 10 * 10 ^ k → places_in f n ≡ k + 1
 unfolding places_in
-settled zero n h = rw (lt-ltb n 10 (omega arith))
-settled (suc f) n h = by-test (ltb n 10) (settled f (n / 10) (omega arith))
-  where
-    by-test : (t : Bool) → places_in (suc f) (n / 10) ≡ places_in f (n / 10) → cond t 1 (places_in (suc f) (n / 10) + 1) ≡ cond t 1 (places_in f (n / 10) + 1)
-    by-test true r = refl
-    by-test false r = rw r
+between zero zero n l h m = refl
+between zero (suc k) n l h m = absurd (omega arith)
+between (suc f) zero n l h m = rw (lt-ltb n 10 (omega arith))
+between (suc f) (suc k) n l h m =
+    let one : 1 ≤ 10 ^ k = one-le-pow k 10 (omega arith) in
+    let few : 10 ≤ n = omega arith in
+    let rest : places_in f (n / 10) ≡ k + 1 = between f k (n / 10) (omega arith) (omega arith) (omega arith) in
+    rw (le-ltb n 10 few) (omega arith)
 
-pub places-one : (n : ℕ) → n < 10 → places n ≡ 1
+-- 0 has as many digits as 1
+pub places-between : (k n : ℕ) → k < 20 → 10 ^ k ≤ max n 1 → max n 1 < 10 * 10 ^ k → k + 1 ≡ places n
 unfolding places places_in
-places-one n h = rw (lt-ltb n 10 h)
-
-more : (f n : ℕ) → 10 ≤ n → n < tens (suc (suc f)) → places_in (suc f) n ≡ places_in (suc f) (n / 10) + 1
-unfolding places_in
-more f n h l = rw (le-ltb n 10 h) (ap (λ (k : ℕ). k + 1) (sym (settled f (n / 10) (omega arith))))
-
-pub places-more : (n : ℕ) → 10 ≤ n → n < 2 ^ 64 → places n ≡ places (n / 10) + 1
-unfolding places
-places-more n h l = more 18 n h (omega arith)
+places-between k zero l h m = sym (between 19 k 1 (omega arith) h m)
+places-between k (suc n) l h m = sym (between 19 k (suc n) (omega arith) (omega arith) (omega arith))
 
 few : (f n : ℕ) → places_in f n ≤ suc f
 unfolding places_in

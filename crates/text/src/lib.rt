@@ -18,26 +18,19 @@ fn glyph(d: usize) -> u8
 pub fn decimal_places(n: usize) -> usize
     ensures { (result ≡ places n) × (result ≤ 20) }
 {
-    let mut k: usize = 1;
-    let mut m = n;
-    while m >= 10 {
-        m = m / 10;
-        k += 1;
-    }
-    k
+    n.max(1).ilog10() as usize + 1
 }
 
-// The last k digits of n, from the last to the first.
+// The last k digits of n, from the last to the first. By hand: `write!` does not promise that it answers Ok, and `listing::put_listing`
+// promises its text wherever that has room.
 fn put_digits(n: usize, base: usize, k: usize, out: &mut [u8], at: usize) -> usize
     requires { (0 < base) × (base ≤ 16) × (at + k ≤ length out.old) }
     ensures { (result ≡ at + k) × (out.new ≡ placed at (digits base k n) out.old) }
 {
-    let mut left = k;
     let mut m = n;
-    while left > 0 {
-        left -= 1;
-        out[at + left] = glyph(m % base);
-        m = m / base;
+    for i in (0..k).rev() {
+        out[at + i] = glyph(m % base);
+        m /= base;
     }
     at + k
 }
@@ -46,13 +39,8 @@ pub fn put_text(text: &[u8], out: &mut [u8], at: usize) -> usize
     requires { at + length text.now ≤ length out.old }
     ensures { (result ≡ at + length text.now) × (out.new ≡ placed at text.now out.old) }
 {
-    let mut end = at;
-    let mut i = 0;
-    while i < text.len() {
-        out[end] = text[i];
-        end += 1;
-        i += 1;
-    }
+    let end = at + text.len();
+    out[at..end].copy_from_slice(text);
     end
 }
 
@@ -81,7 +69,7 @@ pub fn put_bits(x: f32, after: u8, out: &mut [u8], at: usize) -> usize
     requires { at + length (followed (hex_bits x) after) ≤ length out.old }
     ensures { (result ≡ at + length (followed (hex_bits x) after)) × (out.new ≡ placed at (followed (hex_bits x) after) out.old) }
 {
-    put_word(numbers::class::to_bits32(x), after, out, at)
+    put_word(numbers::class::to_bits(x), after, out, at)
 }
 
 // `dry` where the word is 0, else its bits.

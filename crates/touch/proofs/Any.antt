@@ -4,8 +4,8 @@ use mathlib.Core.Bool.{Bool, true, false, ◌||◌, or_assoc}
 use mathlib.Core.List.{List, [], ◌∷◌, ◌++◌}
 use Prim.Native.Nat.{ℕ, ◌+◌, ◌≤◌, ◌<◌}
 use native.Mathlib.Numerals.{add-one}
-use lib.ListN.{length, get_or, take, drop, take-append-drop, drop_of_length-le}
-use lib.Seq.{drop-cons, drop-drop}
+use lib.ListN.{length, get_or, drop, drop_of_length-le}
+use lib.Seq.{drop-cons}
 use Rattle.touch.specs.Touch.{any_in, any_pair}
 
 -- the next element, and the rest
@@ -61,20 +61,15 @@ either f g (x ∷ xs) = ap ((f x || g x) ||◌) (either f g xs) ∙ four (f x) (
     four false true false d = refl
     four false false c d = refl
 
--- the next m elements, and the rest
-any_part : (m : ℕ) (f : ℕ → Bool) (xs : List ℕ) (k : ℕ) → any_in f (drop k xs) ≡ (any_in f (take m (drop k xs)) || any_in f (drop (k + m) xs))
-any_part m f xs k = ap (any_in f) (sym (take-append-drop m (drop k xs))) ∙ any_append f (take m (drop k xs)) (drop m (drop k xs)) ∙ rw drop-drop
-
--- the same for pairs, of the first list and of the second
-pub pair-part-first : (m : ℕ) (f : ℕ → ℕ → Bool) (xs ys : List ℕ) (k : ℕ) → any_pair f (drop k xs) ys ≡ (any_pair f (take m (drop k xs)) ys || any_pair f (drop (k + m) xs) ys)
+-- a part of the first list and the rest of it, or of the second
+pub pair-part-first : (f : ℕ → ℕ → Bool) {xs : List ℕ} (ps rest ys : List ℕ) → xs ≡ ps ++ rest → any_pair f xs ys ≡ (any_pair f ps ys || any_pair f rest ys)
 unfolding any_pair
-pair-part-first m f xs ys k = any_part m (λ p. any_in (f p) ys) xs k
+pair-part-first f ps rest ys is = rw is (any_append (λ p. any_in (f p) ys) ps rest)
 
-pub pair-part-second : (m : ℕ) (f : ℕ → ℕ → Bool) (xs ys : List ℕ) (k : ℕ) → any_pair f xs (drop k ys) ≡ (any_pair f xs (take m (drop k ys)) || any_pair f xs (drop (k + m) ys))
+pub pair-part-second : (f : ℕ → ℕ → Bool) (xs : List ℕ) {ys : List ℕ} (qs rest : List ℕ) → ys ≡ qs ++ rest → any_pair f xs ys ≡ (any_pair f xs qs || any_pair f xs rest)
 unfolding any_pair
-pair-part-second m f xs ys k =
-    ap (λ (g : ℕ → Bool). any_in g xs) (fun_ext (λ p. any_part m (f p) ys k))
-    ∙ either (λ p. any_in (f p) (take m (drop k ys))) (λ p. any_in (f p) (drop (k + m) ys)) xs
+pair-part-second f xs qs rest is =
+    rw is (ap (λ (g : ℕ → Bool). any_in g xs) (fun_ext (λ p. any_append (f p) qs rest)) ∙ either (λ p. any_in (f p) qs) (λ p. any_in (f p) rest) xs)
 
 -- past the end of the second list there is no pair
 pub pair-none-second : (f : ℕ → ℕ → Bool) (xs ys : List ℕ) (k : ℕ) → length ys ≤ k → any_pair f xs (drop k ys) ≡ false

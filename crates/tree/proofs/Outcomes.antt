@@ -10,21 +10,20 @@ use lib.Dec.{ltb}
 use lib.ListN.{length, take, drop, length-append, take-append-drop}
 use lib.Seq.{length-take-le, take_at, drop-append-le}
 use lib.Ieee.{Float}
-use Rattle.base.specs.Refusals.{first_refusal}
+use Rattle.std.specs.Prelude.{Option, Some, None, Ok, Err, ok_or}
+use Rattle.base.specs.declared.Refused.{Refused}
+use Rattle.base.specs.Refusals.{first_refusal, answer_of, refused}
 use Rattle.base.specs.Tables.{over, unless_refused}
-use Rattle.base.proofs.FirstRefusal.{at-refusal, number-answered}
+use Rattle.base.proofs.FirstRefusal.{at-refusal, refused-number}
 use Rattle.pick_lists.specs.Sound.{copies}
 use Rattle.pick_lists.specs.Input.{Input, given}
 use Rattle.centers.specs.Centers.{centers_of}
-use Rattle.octree.specs.declared.Built.{Built}
-use Rattle.octree.specs.declared.Built.TheVariants.{Nodes, Full}
-use Rattle.nodes.specs.Nodes.{deepest}
-use Rattle.octree.specs.Tree.{Subtrees, TreeTables, tree_tables, tables_after}
+use Rattle.octree.specs.declared.TreeSize.{TreeSize}
+use Rattle.octree.specs.Tree.{Subtrees, size_of, TreeTables, tree_tables, tables_after}
 use Rattle.octree.specs.Inner.{built_answer, built_number}
 use Rattle.tree_tables.proofs.Answering.{Answers, tables-same, built-told}
 use Rattle.points.specs.Points.{tree_centers, tree_waters, finite_waters}
-use Rattle.tree.specs.declared.TreeAnswer.{TreeAnswer}
-use Rattle.tree.specs.Tree.{frame_tree, whole_records, tree_refusal, tree_answer, tree_number, input_after, tree_after}
+use Rattle.tree.specs.Tree.{frame_tree, whole_records, tree_refusal, tree_answer, input_after, tree_after}
 use Rattle.tree.specs.Inner.{tree_over, tree_on}
 use Rattle.points.proofs.Wrapping.{centers-size}
 use Rattle.points.proofs.WaterList.{waters-length}
@@ -58,13 +57,13 @@ module _ (g : Subtrees) (n m : ℕ) (t : TreeTables) (fit-c : n ≤ length t.cen
         (ap (λ (u : TreeTables). u.records) e)
         (ap (λ (u : TreeTables). u.boxes) e)
 
-    parts-of : (b : Built) → tree_tables cs ws rec box ≡ tables_after (built_number b) g n m (part_of n m t) → whole_tables ≡ tables_after (built_number b) g n m t
+    parts-of : (b : Option TreeSize) → tree_tables cs ws rec box ≡ tables_after (built_number b) g n m (part_of n m t) → whole_tables ≡ tables_after (built_number b) g n m t
     unfolding tables_after
-    parts-of (Nodes k d) e = whole_back _ _ _ _ e
-    parts-of Full e = whole_back _ _ _ _ e
+    parts-of (Some s) e = whole_back _ _ _ _ e
+    parts-of None e = whole_back _ _ _ _ e
 
     pub parts-back :
-        (b : Built) (room : ℕ) → Answers b room g (length (take n t.center_order)) (length (take m t.water_order)) (part_of n m t) (tree_tables cs ws rec box) →
+        (b : Option TreeSize) (room : ℕ) → Answers b room g (length (take n t.center_order)) (length (take m t.water_order)) (part_of n m t) (tree_tables cs ws rec box) →
         Answers b room g n m t whole_tables
     parts-back b room (answer, after) = (answer, parts-of b (after ∙ rw (length-take-le n t.center_order fit-c, length-take-le m t.water_order fit-w)))
 
@@ -83,7 +82,7 @@ unfolding tree_over tree_on
 over-centers f table wrapped m = rw (front (tree_centers f) table (copies f.starts * 3) (centers-size f))
 
 -- what a builder answers over a frame's tree, b, and the tables u that it leaves of t
-abbrev pub FrameAnswers : Built → ℕ → Input → TreeTables → TreeTables → Type 0
+abbrev pub FrameAnswers : Option TreeSize → ℕ → Input → TreeTables → TreeTables → Type 0
 FrameAnswers b room f t u = (b ≡ built_answer room (frame_tree f)) × (u ≡ input_after (built_number b) f t)
 
 -- `tree_of` is given the wrapped waters in place of the frame's
@@ -94,39 +93,33 @@ unfolding tree_on frame_tree tree_centers centers_of
 waters-given f table = rw (front (tree_waters f.cell f.waters) table (finite_waters f.waters * 3) (waters-length f.cell f.waters))
 
 pub over-waters :
-    (f : Input) (b : Built) (room m : ℕ) (wrapped table : List Float) (t u : TreeTables) → m ≡ finite_waters f.waters → wrapped ≡ over (tree_waters f.cell f.waters) table →
+    (f : Input) (b : Option TreeSize) (room m : ℕ) (wrapped table : List Float) (t u : TreeTables) → m ≡ finite_waters f.waters → wrapped ≡ over (tree_waters f.cell f.waters) table →
     Answers b room (tree_on (given f.cell f.solutes [] f.starts f.picks) wrapped m) (copies f.starts) m t u → FrameAnswers b room f t u
 unfolding input_after
 over-waters f b room m wrapped table t u p q a = rw (p, q, waters-given f table) at a
 
 -- ---- Tree's answer
--- what the builder's is for Tree
-abbrev pub as_tree : Built → TreeAnswer
-as_tree (Nodes n d) = TreeAnswer.Nodes n d
-as_tree Full = TreeAnswer.Refused 13
-
-as-tree : (g : Subtrees) (full : Bool) →
-    as_tree (cond full Full (Nodes (length g.nodes) (deepest g.nodes))) ≡ unless_refused (cond full 13 0) (TreeAnswer.Nodes (length g.nodes) (deepest g.nodes)) (TreeAnswer.Refused (cond full 13 0))
-as-tree g true = refl
-as-tree g false = refl
+-- the builder's, with 13 for none
+size-told : (g : Subtrees) (full : Bool) →
+    ok_or (cond full None (Some (size_of g.nodes))) Refused.Nodes ≡ unless_refused (cond full 13 0) (Ok (size_of g.nodes)) (refused (cond full 13 0))
+size-told g true = refl
+size-told g false = refl
 
 module _ (f : Input) (t : TreeTables) where
   -- the builder's answer, where the tests refuse nothing
   pub tree-built :
-      (b : Built) (u : TreeTables) → first_refusal (tests f t.center_order t.water_order) ≡ 0 →
-      FrameAnswers b (whole_records t) f t u → (as_tree b ≡ tree_answer f t) × (u ≡ tree_after f t)
+      (b : Option TreeSize) (u : TreeTables) → first_refusal (tests f t.center_order t.water_order) ≡ 0 →
+      FrameAnswers b (whole_records t) f t u → (ok_or b Refused.Nodes ≡ tree_answer f t) × (u ≡ tree_after f t)
   unfolding tree_answer tree_after tree_refusal first_refusal
   tree-built b u none (answer, after) =
       let number = call-room (whole_records t) f t none in
-      (rw (answer, number) (as-tree (frame_tree f) (ltb (whole_records t) (length (frame_tree f).nodes))), rw number (rw (built-told (frame_tree f) (whole_records t) b answer).0 at after))
+      (rw (answer, number) (size-told (frame_tree f) (ltb (whole_records t) (length (frame_tree f).nodes))), rw number (rw (built-told (frame_tree f) (whole_records t) b answer).0 at after))
 
-  -- a refusal r of the tests
-  pub tree-refused : (r : ℕ) → r ≡ first_refusal (tests f t.center_order t.water_order) → (r ≡ 0 → ⊥) → (TreeAnswer.Refused r ≡ tree_answer f t) × (t ≡ tree_after f t)
+  -- a refusal of the tests
+  pub tree-refused : (e : Refused) → Err e ≡ answer_of (first_refusal (tests f t.center_order t.water_order)) → (Err e ≡ tree_answer f t) × (t ≡ tree_after f t)
   unfolding tree_answer tree_after tree_refusal
-  tree-refused r e n =
-      let first = call-tested (whole_records t) f t r e n in
-      rw (← first.0) (sym (at-refusal r _ _ n), unchanged r f t n first.1)
-
-  pub tree-told : (a : TreeAnswer) → a ≡ tree_answer f t → tree_number a ≡ tree_refusal f t
-  unfolding tree_answer
-  tree-told a e = ap tree_number e ∙ number-answered tree_number TreeAnswer.Refused (TreeAnswer.Nodes (length (frame_tree f).nodes) (deepest (frame_tree f).nodes)) refl (λ k. refl) (tree_refusal f t)
+  tree-refused e h =
+      let r = first_refusal (tests f t.center_order t.water_order) in
+      let own = refused-number e r h in
+      let first = call-tested (whole_records t) f t r refl own.0 in
+      rw (← first.0) (ap Err own.1 ∙ sym (at-refusal r _ _ own.0), unchanged r f t own.0 first.1)

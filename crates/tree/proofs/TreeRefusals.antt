@@ -3,15 +3,17 @@
 use mathlib.Core.Path.{◌≡◌, refl, sym, ◌∙◌}
 use mathlib.Core.Bool.{Bool, true, false, cond, not, ◌&&◌, and-eq-true_iff}
 use mathlib.Core.List.{List, [], ◌∷◌}
-use Prim.Native.Nat.{ℕ, zero, suc, ◌*◌, ◌≤◌, ◌<◌}
+use Prim.Native.Nat.{ℕ, ◌*◌, ◌≤◌, ◌<◌}
 use native.Mathlib.Omega.{arith}
 use borrow.Author.Tests.{eqb-false, lt-ltb, le-ltb, ltb-false, not-true}
 use lib.Dec.{eqb, ltb}
 use lib.ListN.{length}
 use Rattle.frame_limits.specs.Limits.{long, lengths, counts, bounds, coordinates, validity, limit_refusals, frame_refusals}
 use Rattle.base.specs.Limits.{max_atoms}
-use Rattle.base.specs.Refusals.{Refusal, first_refusal}
-use Rattle.base.proofs.FirstRefusal.{numbered, first-hit, first-skip, first-none, append-hit, append-skip}
+use Rattle.std.specs.Prelude.{Err}
+use Rattle.base.specs.declared.Refused.{Refused}
+use Rattle.base.specs.Refusals.{Refusal, first_refusal, answer_of}
+use Rattle.base.proofs.FirstRefusal.{numbered, first-hit, first-skip, first-none, append-hit, append-skip, append-none, append-refused}
 use Rattle.base.proofs.Tests.{neither}
 use Rattle.frame_limits.proofs.FrameRefusals.{frame-none}
 use Rattle.pick_lists.specs.Sound.{copies, sound_lists, soundness}
@@ -61,9 +63,9 @@ module _ (f : Input) (center_order water_order : List ℕ) where
   abbrev seven : Refusal
   seven = order_refusal f center_order water_order
 
-  pub test-input : (r : ℕ) → r ≡ first_refusal (input_refusals f) → (r ≡ 0 → ⊥) → r ≡ first_refusal tests
+  pub test-input : (e : Refused) → Err e ≡ answer_of (first_refusal (input_refusals f)) → Err e ≡ answer_of (first_refusal tests)
   unfolding test_refusals
-  test-input r e n = e ∙ sym (append-hit (input_refusals f) (seven ∷ []) (input-numbered f) (λ z. n (e ∙ z)))
+  test-input e h = append-refused (input_refusals f) (seven ∷ []) (input-numbered f) e h
 
   test-order : first_refusal (input_refusals f) ≡ 0 → first_refusal tests ≡ first_refusal (seven ∷ [])
   unfolding test_refusals
@@ -92,7 +94,7 @@ module _ (f : Input) (center_order water_order : List ℕ) where
   pub tested : first_refusal tests ≡ 0 → Tested
   unfolding test_refusals order_refusal long
   tested e =
-      let input : first_refusal (input_refusals f) ≡ 0 = none_first (first_refusal (input_refusals f)) refl in
+      let input : first_refusal (input_refusals f) ≡ 0 = append-none (input_refusals f) (seven ∷ []) (input-numbered f) e in
       let fails = (first-none seven [] (λ z. omega arith) (sym (test-order input) ∙ e)).0 in
       let fit = neither (ltb (length center_order) (copies f.starts)) (ltb (length water_order) (finite_waters f.waters)) fails in
       let accepted = input-accepted f input in
@@ -103,10 +105,6 @@ module _ (f : Input) (center_order water_order : List ℕ) where
         centers-fit = ltb-false (length center_order) (copies f.starts) fit.0;
         waters-fit = ltb-false (length water_order) (finite_waters f.waters) fit.1;
       }
-    where
-      none_first : (r : ℕ) → r ≡ first_refusal (input_refusals f) → first_refusal (input_refusals f) ≡ 0
-      none_first zero h = sym h
-      none_first (suc r) h = absurd (omega (arith, test-input (suc r) h (λ z. omega arith), e))
 
 -- ---- the whole call: a refusal of the tests, or 13
 module _ (room : ℕ) (f : Input) (t : TreeTables) where

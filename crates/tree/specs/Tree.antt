@@ -1,15 +1,14 @@
 -- docs/RULES.md, Tree: as dispersion, then 7 for order lists, then 13. Definitions only. Assumes nothing.
-use Rattle.std.specs.Prelude.{◌||◌, List, [], ◌∷◌, ◌++◌, ℕ, min, ◌/◌, ltb, length}
-use Rattle.base.specs.Refusals.{Refusal, refuse, first_refusal}
+use Rattle.std.specs.Prelude.{◌||◌, List, [], ◌∷◌, ◌++◌, ℕ, min, ◌/◌, ltb, length, Result, Ok, Err}
+use Rattle.base.specs.declared.Refused.{Refused}
+use Rattle.base.specs.Refusals.{Refusal, refuse, first_refusal, refused}
 use Rattle.base.specs.Tables.{unless_refused}
 use Rattle.pick_lists.specs.Sound.{copies}
 use Rattle.pick_lists.specs.Input.{Input, input_refusals}
 use Rattle.bounds.specs.Bounds.{cell_box}
-use Rattle.nodes.specs.Nodes.{deepest}
-use Rattle.octree.specs.Tree.{Subtrees, tree_of, room_refusal, TreeTables, tables_after}
+use Rattle.octree.specs.declared.TreeSize.{TreeSize}
+use Rattle.octree.specs.Tree.{Subtrees, tree_of, size_of, room_refusal, TreeTables, tables_after}
 use Rattle.points.specs.Points.{tree_centers, tree_waters, finite_waters}
-use Rattle.tree.specs.declared.TreeAnswer.{TreeAnswer}
-use Rattle.tree.specs.declared.TreeAnswer.TheVariants.{Nodes, Refused}
 
 -- the tree of a call's input
 unfoldable pub frame_tree : Input → Subtrees
@@ -41,20 +40,14 @@ unfolding refusal_in
 tree_refusal f t = refusal_in (whole_records t) f t
 
 -- the number of nodes and the greatest depth, or the refusal
-unfoldable pub tree_answer : Input → TreeTables → TreeAnswer
+unfoldable pub tree_answer : Input → TreeTables → Result TreeSize Refused
 unfolding tree_refusal frame_tree
-tree_answer f t =
-    let vs = (frame_tree f).nodes in
-    unless_refused (tree_refusal f t) (Nodes (length vs) (deepest vs)) (Refused (tree_refusal f t))
+tree_answer f t = unless_refused (tree_refusal f t) (Ok (size_of (frame_tree f).nodes)) (refused (tree_refusal f t))
 
--- the number and the values of each case of an answer
-abbrev pub tree_number : TreeAnswer → ℕ
-tree_number (Nodes n d) = 0
-tree_number (Refused r) = r
-
-abbrev pub tree_values : TreeAnswer → List ℕ
-tree_values (Nodes n d) = n ∷ d ∷ []
-tree_values (Refused r) = []
+-- the values of each case of an answer
+abbrev pub tree_values : Result TreeSize Refused → List ℕ
+tree_values (Ok s) = s.nodes ∷ s.depth ∷ []
+tree_values (Err e) = []
 
 -- the tables after the answer of number r of Tree or Report
 unfoldable pub input_after : ℕ → Input → TreeTables → TreeTables

@@ -4,7 +4,7 @@
 
 ghost use Rattle.std.specs.Prelude.{◌≡◌, true, [], ◌*◌, ◌≤◌, length};
 ghost use Rattle.base.specs.Limits.{max_atoms};
-ghost use Rattle.base.specs.Refusals.{first_refusal};
+ghost use Rattle.base.specs.Refusals.{first_refusal, answer_of};
 ghost use Rattle.pick_lists.specs.Sound.{sound_lists, copies};
 ghost use Rattle.pick_lists.specs.Input.{given};
 ghost use Rattle.octree.specs.Inner.{tree_room, built_answer, built_number};
@@ -12,18 +12,12 @@ ghost use Rattle.octree.specs.Tree.{tree_tables, tables_after};
 ghost use Rattle.tree.specs.Tree.{test_refusals, tree_answer, tree_after};
 ghost use Rattle.tree.specs.Inner.{tree_over, tree_on};
 
+use base::Refused;
 use bounds::OctreeBounds;
 use cell::Cell;
-use octree::Built;
+use octree::TreeSize;
 
-// What Tree answers: the number of nodes and the greatest depth, or a refusal by its number.
-#[derive(Clone, Copy)]
-pub enum TreeAnswer {
-    Nodes(usize, usize),
-    Refused(u32),
-}
-
-// The first of 1, 2, 3, 4, 15, 8 and 7 (for the order lists) that holds, or 0: what Tree and Report test before they write.
+// The first of 1, 2, 3, 4, 15, 8 and 7 (for the order lists) that holds: what Tree and Report test before they write.
 pub fn refusal(
     cell: Cell,
     solutes: &[f32],
@@ -32,21 +26,18 @@ pub fn refusal(
     picks: &[u32],
     center_order: &[u32],
     water_order: &[u32],
-) -> u32
-    ensures { result ≡ first_refusal (test_refusals (given cell solutes.now waters.now starts.now picks.now) center_order.now water_order.now) }
+) -> Result<(), Refused>
+    ensures { result ≡ answer_of (first_refusal (test_refusals (given cell solutes.now waters.now starts.now picks.now) center_order.now water_order.now)) }
 {
-    let first = pick_lists::input_refusal(cell, solutes, waters, starts, picks);
-    if first != 0 {
-        return first;
-    }
+    pick_lists::input_refusal(cell, solutes, waters, starts, picks)?;
     if center_order.len() < starts.len() - 1 {
-        return 7;
+        return Err(Refused::Short);
     }
     // Waters that are not finite get no place.
     if water_order.len() < points::count_waters(waters) {
-        return 7;
+        return Err(Refused::Short);
     }
-    0
+    Ok(())
 }
 
 // The tree over the first n centers and the first m waters. The order lists are used up to n and m.
@@ -61,7 +52,7 @@ fn tree_over(
     records: &mut [u32],
     boxes: &mut [f32],
     limit: usize,
-) -> Built
+) -> Option<TreeSize>
     requires n_in_bounds { (n * 3 ≤ length centers.now) × (m * 3 ≤ length waters.now) × (n ≤ max_atoms) × (m ≤ max_atoms) }
     requires n_in_bounds_2 { (n ≤ length center_order.old) × (m ≤ length water_order.old) }
     ensures answer { result ≡ built_answer (tree_room records.old boxes.old limit) (tree_over cell centers.now n waters.now m) }
@@ -69,7 +60,7 @@ fn tree_over(
         ≡ tables_after (built_number result) (tree_over cell centers.now n waters.now m) n m (tree_tables center_order.old water_order.old records.old boxes.old) }
 {
     tree_tables::build_tree(
-        OctreeBounds::from_cell(cell),
+        OctreeBounds::from(cell),
         &centers[..n * 3],
         &waters[..m * 3],
         &mut center_order[..n],
@@ -94,7 +85,7 @@ pub fn tree_of(
     records: &mut [u32],
     boxes: &mut [f32],
     limit: usize,
-) -> Built
+) -> Option<TreeSize>
     requires picks_value { sound_lists solutes.now starts.now picks.now ≡ true }
     requires m_in_bounds { (m * 3 ≤ length wrapped.now) × (m ≤ max_atoms) }
     requires starts_in_bounds { (copies starts.now ≤ length center_order.old) × (m ≤ length water_order.old) }
@@ -118,7 +109,7 @@ pub fn tree_of(
     )
 }
 
-// Tree: 1, 2, 3, 4, 15, 8, 7, 13 in this order, or the nodes.
+// Tree: 1, 2, 3, 4, 15, 8, 7, 13 in this order, or the number of nodes and the greatest depth.
 pub fn tree(
     cell: Cell,
     solutes: &[f32],
@@ -129,12 +120,12 @@ pub fn tree(
     water_order: &mut [u32],
     records: &mut [u32],
     boxes: &mut [f32],
-) -> TreeAnswer
+) -> Result<TreeSize, Refused>
     ensures answer { result ≡ tree_answer (given cell solutes.now waters.now starts.now picks.now) (tree_tables center_order.old water_order.old records.old boxes.old) }
     ensures after { tree_tables center_order.new water_order.new records.new boxes.new
         ≡ tree_after (given cell solutes.now waters.now starts.now picks.now) (tree_tables center_order.old water_order.old records.old boxes.old) }
 {
-    let first = refusal(
+    refusal(
         cell,
         solutes,
         waters,
@@ -142,15 +133,12 @@ pub fn tree(
         picks,
         center_order,
         water_order,
-    );
-    if first != 0 {
-        return TreeAnswer::Refused(first);
-    }
+    )?;
     let mut wrapped = points::water_room();
     let m = points::put_waters(cell, waters, &mut wrapped);
     // No third table: the records alone.
     let limit = records.len() / 8;
-    match tree_of(
+    tree_of(
         cell,
         solutes,
         starts,
@@ -162,8 +150,6 @@ pub fn tree(
         records,
         boxes,
         limit,
-    ) {
-        Built::Nodes(nodes, depth) => TreeAnswer::Nodes(nodes, depth),
-        Built::Full => TreeAnswer::Refused(13),
-    }
+    )
+    .ok_or(Refused::Nodes)
 }

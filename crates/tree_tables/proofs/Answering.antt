@@ -14,8 +14,9 @@ use Rattle.division.specs.Split.{max_depth}
 use Rattle.base.specs.Refusals.{first_refusal}
 use Rattle.base.specs.Tables.{over, first_numbers}
 use Rattle.bounds.specs.declared.OctreeBounds.{OctreeBounds}
-use Rattle.octree.specs.declared.Built.{Built}
-use Rattle.octree.specs.Tree.{Subtrees, none, where_some, subtree, tree_of, point_numbers, room_refusal, TreeTables, tree_tables, tables_after}
+use Rattle.std.specs.Prelude.{Option, Some, None}
+use Rattle.octree.specs.declared.TreeSize.{TreeSize}
+use Rattle.octree.specs.Tree.{Subtrees, size_of, none, where_some, subtree, tree_of, point_numbers, room_refusal, TreeTables, tree_tables, tables_after}
 use Rattle.octree.specs.Inner.{Numbered, built_answer, built_number, Filled}
 use Rattle.nodes.specs.Nodes.{deepest, records_of, boxes_of}
 use Rattle.base.proofs.Placing.{placed-zero}
@@ -24,7 +25,7 @@ use Rattle.octree.proofs.Children.{no-points, some-points}
 use Rattle.octree.proofs.Counting.{nodes-few}
 
 -- a builder's answer b for a tree g of n centers and m waters, and the tables u that it leaves of t
-abbrev pub Answers : Built → ℕ → Subtrees → ℕ → ℕ → TreeTables → TreeTables → Type 0
+abbrev pub Answers : Option TreeSize → ℕ → Subtrees → ℕ → ℕ → TreeTables → TreeTables → Type 0
 Answers b room g n m t u = (b ≡ built_answer room g) × (u ≡ tables_after (built_number b) g n m t)
 
 -- the cap on the room
@@ -79,45 +80,45 @@ over-whole {ys = ys} t e h = e ∙ sym (rw (drop_of_length-le t {i = length ys} 
 
 -- order lists with a place for each point, so that they are replaced whole
 module _ (g : Subtrees) (room : ℕ) (t : TreeTables) where
-  abbrev Whole : Built → List ℕ → List ℕ → List ℕ → List Float → Type 0
+  abbrev Whole : Option TreeSize → List ℕ → List ℕ → List ℕ → List Float → Type 0
   Whole r cs ws rec box = Answers r room g (length t.center_order) (length t.water_order) t (tree_tables cs ws rec box)
 
-  pub answered-none : (cs ws : List ℕ) → g ≡ none [] [] → cs ≡ t.center_order → ws ≡ t.water_order → Whole (Built.Nodes 0 0) cs ws t.records t.boxes
+  pub answered-none : (cs ws : List ℕ) → g ≡ none [] [] → cs ≡ t.center_order → ws ≡ t.water_order → Whole (Some (record { nodes = 0; depth = 0 })) cs ws t.records t.boxes
   unfolding deepest records_of boxes_of over tables_after
   answered-none cs ws e p q = rw (e, p, q, le-ltb room 0 (omega arith)) (refl, refl)
 
   pub answered-full : (cs ws rec : List ℕ) (box : List Float) → room < length g.nodes → cs ≡ first_numbers (length t.center_order) → ws ≡ first_numbers (length t.water_order)
-      → rec ≡ replicate (length t.records) 0 → box ≡ replicate (length t.boxes) (of_bits binary32 0) → Whole Built.Full cs ws rec box
+      → rec ≡ replicate (length t.records) 0 → box ≡ replicate (length t.boxes) (of_bits binary32 0) → Whole None cs ws rec box
   unfolding tables_after
   answered-full cs ws rec box h p q u v =
       rw (lt-ltb room (length g.nodes) h) (refl, tables-same (over-whole t.center_order p (numbers-length (length t.center_order))) (over-whole t.water_order q (numbers-length (length t.water_order))) u v)
 
-  pub answered-fits : (r : Built) (cs ws rec : List ℕ) (box : List Float) → length g.nodes ≤ room → Filled g 0 r cs ws t.records rec t.boxes box
+  pub answered-fits : (r : Option TreeSize) (cs ws rec : List ℕ) (box : List Float) → length g.nodes ≤ room → Filled g 0 r cs ws t.records rec t.boxes box
       → length cs ≡ length t.center_order → length ws ≡ length t.water_order → Whole r cs ws rec box
   unfolding tables_after
   answered-fits r cs ws rec box h f lc lw =
       let n : 0 + length g.nodes ≡ length g.nodes = omega arith in
       rw (f.answer, le-ltb room (length g.nodes) h) (
-        ap (λ (k : ℕ). Built.Nodes k (deepest g.nodes)) n,
+        ap (λ (k : ℕ). Some (record { nodes = k; depth = deepest g.nodes })) n,
         tables-same (over-whole t.center_order f.order-c (ap length (sym f.order-c) ∙ lc)) (over-whole t.water_order f.order-w (ap length (sym f.order-w) ∙ lw))
             (f.table ∙ placed-zero (records_of g.nodes) t.records) (f.corners ∙ placed-zero (boxes_of g.nodes) t.boxes),
       )
 
--- ---- what an answer tells: its number is the refusal's, and the nodes that it counts are the tree's
+-- ---- what an answer tells: its number is the refusal's, and its size is the tree's
 module _ (g : Subtrees) where
-  abbrev told : Bool → Built
-  told full = cond full Built.Full (Built.Nodes (length g.nodes) (deepest g.nodes))
+  abbrev told : Bool → Option TreeSize
+  told full = cond full None (Some (size_of g.nodes))
 
   told-number : (full : Bool) → built_number (told full) ≡ cond full 13 0
   told-number true = refl
   told-number false = refl
 
-  told-counts : (full : Bool) (n d : ℕ) → Built.Nodes n d ≡ told full → (n ≡ length g.nodes) × (d ≡ deepest g.nodes)
-  told-counts true n d e = let z : ◌≡◌ {A = ℕ} 0 1 = cc in absurd (omega arith)
-  told-counts false n d e = (cc, cc)
+  told-size : (full : Bool) (s : TreeSize) → Some s ≡ told full → s ≡ size_of g.nodes
+  told-size true s e = cc
+  told-size false s e = cc
 
-  pub built-told : (room : ℕ) (b : Built) → b ≡ built_answer room g
-      → (built_number b ≡ first_refusal (room_refusal room g ∷ [])) × ((n d : ℕ) → b ≡ Built.Nodes n d → (n ≡ length g.nodes) × (d ≡ deepest g.nodes))
+  pub built-told : (room : ℕ) (b : Option TreeSize) → b ≡ built_answer room g
+      → (built_number b ≡ first_refusal (room_refusal room g ∷ [])) × ((s : TreeSize) → b ≡ Some s → s ≡ size_of g.nodes)
   unfolding first_refusal
   built-told room b e =
-      (ap built_number e ∙ told-number (ltb room (length g.nodes)), λ n d p. told-counts (ltb room (length g.nodes)) n d (sym p ∙ e))
+      (ap built_number e ∙ told-number (ltb room (length g.nodes)), λ s p. told-size (ltb room (length g.nodes)) s (sym p ∙ e))

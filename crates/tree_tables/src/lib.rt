@@ -9,7 +9,7 @@ ghost use Rattle.octree.specs.Tree.{tree_of, tree_tables, tables_after};
 use base::MAX_ATOMS;
 use bounds::OctreeBounds;
 use division::MAX_DEPTH;
-use octree::Built;
+use octree::TreeSize;
 use octree::build::build;
 
 // A node at each depth for each center and each water: no tree has more.
@@ -26,7 +26,7 @@ pub fn build_tree(
     records: &mut [u32],
     boxes: &mut [f32],
     limit: usize,
-) -> Built
+) -> Option<TreeSize>
     requires { Numbered centers.now center_order.old × Numbered waters.now water_order.old }
     ensures answer { result ≡ built_answer (tree_room records.old boxes.old limit) (tree_of bounds centers.now waters.now) }
     ensures after { tree_tables center_order.new water_order.new records.new boxes.new
@@ -36,14 +36,14 @@ pub fn build_tree(
     nodes::count_up(water_order);
     // No points: no nodes, in tables of any size.
     if center_order.len() + water_order.len() == 0 {
-        return Built::Nodes(0, 0);
+        return Some(TreeSize { nodes: 0, depth: 0 });
     }
-    let tables = base::min(records.len() / 8, boxes.len() / 6);
+    let tables = (records.len() / 8).min(boxes.len() / 6);
     // The cap keeps every node number in a word, and no tree reaches it.
-    let room = base::min(base::min(tables, limit), MOST_NODES);
+    let room = tables.min(limit).min(MOST_NODES);
     let mut scratch = [0u32; MAX_ATOMS];
     let mut codes = [0u8; MAX_ATOMS];
-    let r = build(
+    let Some(size) = build(
         bounds,
         0,
         centers,
@@ -58,10 +58,9 @@ pub fn build_tree(
         room,
         &mut scratch,
         &mut codes,
-    );
-    if let Built::Full = r {
+    ) else {
         nodes::reset(center_order, water_order, records, boxes);
-        return Built::Full;
-    }
-    r
+        return None;
+    };
+    Some(size)
 }

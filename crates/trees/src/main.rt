@@ -6,18 +6,11 @@
 
 ghost use Rattle.std.specs.Prelude.{◌≤◌};
 
+use base::Refused;
 use cell::{Cell, Vec3};
-use report::Reported;
+use octree::TreeSize;
+use report::ReportCounts;
 use std::io;
-use tree::TreeAnswer;
-
-fn text(rt: &impl Print, s: &str) -> io::Result<()> {
-    rt.print(s)
-}
-
-fn decimal(rt: &impl Print, n: usize) -> io::Result<()> {
-    print!(rt; "{n} ")
-}
 
 fn cube(h: f32) -> Cell {
     Cell {
@@ -30,31 +23,24 @@ fn cube(h: f32) -> Cell {
     }
 }
 
-fn show_tree(rt: &impl Print, a: TreeAnswer) -> io::Result<()> {
-    match a {
-        TreeAnswer::Nodes(nodes, depth) => {
-            decimal(rt, nodes)?;
-            decimal(rt, depth)
-        }
-        TreeAnswer::Refused(n) => {
-            text(rt, "refused ")?;
-            decimal(rt, n as usize)
-        }
+fn show_tree(rt: &impl Print, answer: Result<TreeSize, Refused>) -> io::Result<()> {
+    match answer {
+        Ok(TreeSize { nodes, depth }) => print!(rt; "{nodes} {depth} "),
+        Err(e) => print!(rt; "refused {} ", e.number()),
     }
 }
 
-fn show_report(rt: &impl Print, a: Reported) -> io::Result<()> {
-    match a {
-        Reported::Leaves(nodes, depth, leaves, dry) => {
-            decimal(rt, nodes)?;
-            decimal(rt, depth)?;
-            decimal(rt, leaves)?;
-            decimal(rt, dry)
-        }
-        Reported::Refused(n) => {
-            text(rt, "refused ")?;
-            decimal(rt, n as usize)
-        }
+fn show_report(rt: &impl Print, answer: Result<ReportCounts, Refused>) -> io::Result<()> {
+    match answer {
+        Ok(
+            ReportCounts {
+                nodes,
+                depth,
+                leaves,
+                dry,
+            },
+        ) => print!(rt; "{nodes} {depth} {leaves} {dry} "),
+        Err(e) => print!(rt; "refused {} ", e.number()),
     }
 }
 
@@ -86,7 +72,7 @@ fn both(
             boxes,
         ),
     )?;
-    text(rt, "and ")?;
+    print!(rt; "and ")?;
     show_report(
         rt,
         report::report(
@@ -122,8 +108,7 @@ fn run(
     let picks = [0u32, 1];
     let mut records = [1u32; 120];
     let mut boxes = [1f32; 90];
-    text(rt, name)?;
-    text(rt, ": ")?;
+    print!(rt; "{name}: ")?;
     both(
         rt,
         cube(h),
@@ -134,23 +119,7 @@ fn run(
         &mut records[..r * 8],
         &mut boxes,
     )?;
-    text(rt, "expected ")?;
-    text(rt, expected)?;
-    text(rt, "\n")
-}
-
-fn fewer_copies(rt: &impl Print) -> io::Result<()> {
-    run(rt, "one copy, no waters", 16.0, 1, 0, 15, "1 0 and 1 0 1 1")?;
-    run(
-        rt,
-        "no centers, one water",
-        16.0,
-        0,
-        1,
-        15,
-        "1 0 and 1 0 0 0",
-    )?;
-    run(rt, "no points", 16.0, 0, 0, 15, "0 0 and 0 0 0 0")
+    println!(rt; "expected {expected}")
 }
 
 fn main(rt: HostRuntime) -> io::Result<()> {
@@ -172,7 +141,25 @@ fn main(rt: HostRuntime) -> io::Result<()> {
         15,
         "15 14 and 15 14 1 0",
     )?;
-    fewer_copies(&rt)?;
+    run(
+        &rt,
+        "one copy, no waters",
+        16.0,
+        1,
+        0,
+        15,
+        "1 0 and 1 0 1 1",
+    )?;
+    run(
+        &rt,
+        "no centers, one water",
+        16.0,
+        0,
+        1,
+        15,
+        "1 0 and 1 0 0 0",
+    )?;
+    run(&rt, "no points", 16.0, 0, 0, 15, "0 0 and 0 0 0 0")?;
     // one record less than the nodes: 13
     run(
         &rt,

@@ -8,6 +8,7 @@ use lib.ListN.{length, get_or, set}
 use lib.Seq.{get_or-set_same, get_or-set_other}
 use lib.Dec.{eqb}
 use borrow.Author.Tests.{eq-eqb, ne_eqb}
+use Rattle.std.proofs.Math.Nat.{max_comm}
 use Rattle.base.specs.Range.{count, greatest}
 use Rattle.union_find.specs.Parents.{root_of, compressed, sound_parents, set_size, largest_set}
 use Rattle.base.proofs.Ranges.{count_none, count-hit, count-miss, count-le, count-pos, greatest-le, greatest-at, greatest-raise}
@@ -66,13 +67,14 @@ module _ {p : List ℕ} {i : ℕ} {q sizes : List ℕ} {most : ℕ} (s : Sound p
       is-size : size ≡ size_below p (i + 1) r
       is-size = more ∙ ap (λ (x : ℕ). x + 1) (t.counted r tally-below) ∙ sym (raised r e)
 
-      top-next : max size most ≡ greatest (length p) (size_below p (i + 1))
+      top-next : max most size ≡ greatest (length p) (size_below p (i + 1))
       top-next =
           let others : (x : ℕ) → x < length p → (x ≡ r → ⊥) → size_below p i x ≡ size_below p (i + 1) x = λ x h n. sym (kept x (λ d. n (d ∙ sym e))) in
-          rw (is-size, t.top)
+          max_comm most size
+          ∙ rw (is-size, t.top)
           (sym (greatest-raise (length p) (size_below p i) (size_below p (i + 1)) r tally-below others (omega (arith, raised r e))))
 
-      pub tally-next : (m : ℕ) → m ≡ max size most → Tally p (i + 1) (compressed q i) (set sizes r size) m
+      pub tally-next : (m : ℕ) → m ≡ max most size → Tally p (i + 1) (compressed q i) (set sizes r size) m
       tally-next m em =
           record {
             upto = omega arith;

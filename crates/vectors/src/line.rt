@@ -1,5 +1,5 @@
 // The lines of a vector file.
-ghost use Rattle.std.specs.Prelude.{◌≤◌, length};
+ghost use Rattle.std.specs.Prelude.{◌≤◌, ◌<◌, length, IfSome};
 
 // What a line holds.
 #[derive(Clone, Copy)]
@@ -11,77 +11,50 @@ pub(crate) enum Line {
     Damaged,
 }
 
-// A word of hexadecimal digits, or something else.
-#[derive(Clone, Copy)]
-enum Word {
-    Bits(u64),
-    Broken,
-}
-
-// Where the line ends that starts at `from`: at its newline, or where the text ends.
-pub(crate) fn line_end(text: &[u8], from: usize) -> usize
-    requires { from ≤ length text.now }
-    ensures { (from ≤ result) × (result ≤ length text.now) }
+// The first line of a text and what follows its newline. An empty text has no line.
+pub(crate) fn cut(text: &[u8]) -> Option<(&[u8], &[u8])>
+    ensures { IfSome result (λ r. length r.1.now < length text.now) }
 {
-    let mut at = from;
-    while at < text.len() {
-        if text[at] == b'\n' {
-            return at;
-        }
-        at += 1;
+    if text.is_empty() {
+        return None;
     }
-    at
+    Some(match text.iter().position(|c| *c == b'\n') {
+        Some(end) => (&text[..end], &text[end + 1..]),
+        None => (text, &[]),
+    })
 }
 
-// What a capital hexadecimal digit counts, and 16 for any other byte.
-fn digit(c: u8) -> u64 {
+// What a capital hexadecimal digit counts.
+fn digit(c: u8) -> Option<u64> {
     match c {
-        b'0'..=b'9' => (c - b'0') as u64,
-        b'A'..=b'F' => (c - b'A') as u64 + 10,
-        _ => 16,
+        b'0'..=b'9' => Some((c - b'0') as u64),
+        b'A'..=b'F' => Some((c - b'A') as u64 + 10),
+        _ => None,
     }
 }
 
-fn bits_of(s: &[u8]) -> Word {
+// What a word of hexadecimal digits counts.
+fn bits_of(s: &[u8]) -> Option<u64> {
     let mut bits: u64 = 0;
-    let mut i = 0;
-    while i < s.len() {
-        let d = digit(s[i]);
-        if d > 15 {
-            return Word::Broken;
-        }
-        bits = (bits << 4) | d;
-        i += 1;
+    for c in s {
+        bits = (bits << 4) | digit(*c)?;
     }
-    Word::Bits(bits)
-}
-
-fn pair(input: Word, output: Word) -> Line {
-    let Word::Bits(x) = input else {
-        return Line::Damaged;
-    };
-    let Word::Bits(y) = output else {
-        return Line::Damaged;
-    };
-    Line::Vector(x, y)
+    Some(bits)
 }
 
 // Reads a line whose two words have so many digits, with one blank between.
 pub(crate) fn read(s: &[u8], input: usize, output: usize) -> Line
     requires { (input ≤ 16) × (output ≤ 16) }
 {
-    if s.len() == 0 {
-        return Line::Remark;
-    }
-    if s[0] == b'#' {
+    if let [] | [b'#', ..] = s {
         return Line::Remark;
     }
     let second = input + 1;
-    if s.len() != second + output {
+    if s.len() != second + output || s[input] != b' ' {
         return Line::Damaged;
     }
-    if s[input] != b' ' {
-        return Line::Damaged;
+    match (bits_of(&s[..input]), bits_of(&s[second..])) {
+        (Some(x), Some(y)) => Line::Vector(x, y),
+        _ => Line::Damaged,
     }
-    pair(bits_of(&s[0..input]), bits_of(&s[second..]))
 }

@@ -6,7 +6,6 @@
 mod group;
 mod line;
 mod operation;
-mod print;
 
 use operation::Operation;
 use std::io;

@@ -35,8 +35,8 @@ impl Operation {
     // What the crate under test answers. Of an argument of eight digits nothing is lost.
     pub(crate) fn answer(self, input: u64) -> u64 {
         match self {
-            Operation::Sqrt32 => roots::sqrt_bits32(low(input)) as u64,
-            Operation::Sqrt64 => roots::sqrt_bits64(input),
+            Operation::Sqrt32 => roots::sqrt_bits::<f32>(low(input)) as u64,
+            Operation::Sqrt64 => roots::sqrt_bits::<f64>(input),
             Operation::Floor32 => numbers::whole::floor_bits32(low(input)) as u64,
             Operation::Round32 => numbers::whole::round_bits32(low(input)) as u64,
             Operation::Widen => numbers::convert::widen_bits(low(input)),

@@ -1,8 +1,8 @@
--- `block::half` meets its contract: the definition over the two bytes. Assumes nothing.
-use native.Mathlib.Omega.{arith}
+-- `block::half` meets its contract: two bytes, the lower first. Assumes nothing.
+use Rattle.std.proofs.Common.{arith}
 use Rattle.block.specs.Block.{half_at}
 use Rattle.block.proofs.half.Goals as goal
 
 pub returns : goal.returns
 unfolding half_at
-returns c = (omega arith, omega arith)
+returns c = omega (arith, c.from_le_bytes.ensures)

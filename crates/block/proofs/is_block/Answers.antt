@@ -12,7 +12,7 @@ pub returns-then-bytes-gt-MAX_BLOCK : goal.returns-then-bytes-gt-MAX_BLOCK
 returns-then-bytes-gt-MAX_BLOCK c = sym (long-no-block _ c.if-bytes-gt-MAX_BLOCK.true)
 
 pub returns-then-half-ne1 : goal.returns-then-half-ne1
-returns-then-half-ne1 c = sym (other-kind-no-block _ (λ e. c.if-half-ne1.true (c.half.ensures.0 ∙ e)))
+returns-then-half-ne1 c = sym (other-kind-no-block _ (λ e. c.if-half-ne1.true (c.half.ensures ∙ e)))
 
 pub returns-then-length-count : goal.returns-then-length-count
 returns-then-length-count c = sym (other-length-no-block _ (λ e. c.if-length-count.true (omega arith)))
@@ -20,4 +20,4 @@ returns-then-length-count c = sym (other-length-no-block _ (λ e. c.if-length-co
 pub returns : goal.returns
 returns c =
     rw c.count-length.ensures.0
-    (sym (end-decides _ c.if-bytes-gt-MAX_BLOCK.false (sym c.half.ensures.0 ∙ c.if-half-ne1.false) (omega arith)))
+    (sym (end-decides _ c.if-bytes-gt-MAX_BLOCK.false (sym c.half.ensures ∙ c.if-half-ne1.false) (omega arith)))

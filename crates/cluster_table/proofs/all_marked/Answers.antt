@@ -1,20 +1,15 @@
--- What is left to prove of `all_marked`. Assumes nothing.
-use mathlib.Core.Path.{sym}
-use Prim.Native.Nat.{zero-le}
-use native.Mathlib.Omega.{arith}
-use borrow.Author.Count.{below_none, below_more}
-use borrow.Author.Tests.{eq-eqb, ne_eqb}
-use Rattle.base.proofs.Ranges.{all_true, all-false}
+-- `cluster_table::all_marked` meets its contract: what `all` answers on the marks. Assumes nothing.
+use Rattle.std.proofs.Common.{◌+◌, ◌∙◌, arith, rules, tests, eqb}
+use Rattle.std.proofs.lemmas.Iterator.{YieldsList-from_slice}
+use Rattle.std.proofs.lemmas.Iterator.Search.{all_from_yields_List}
+use Rattle.cluster_table.specs.Table.{header, marks}
+use Rattle.cluster_table.proofs.Lists.{all_list, part-all}
 use Rattle.cluster_table.proofs.all_marked.Goals as goal
 
-pub loop-i-init : goal.loop-i-init
-loop-i-init c = (zero-le, below_none _)
-
-pub returns-then-table-n-ne1 : goal.returns-then-table-n-ne1
-returns-then-table-n-ne1 c = sym (all-false _ _ _ c.loop-i-test.true (ne_eqb _ _ c.if-table-n-ne1.true))
-
-pub loop-i-preserved : goal.loop-i-preserved
-loop-i-preserved c = (omega arith, below_more _ _ c.loop-i.invariant.1 (eq-eqb _ _ c.if-table-n-ne1.false))
-
 pub returns : goal.returns
-returns c = sym (all_true _ _ (λ k l. c.loop-i.invariant.1 k (omega (arith, c.loop-i-test.false))))
+returns c =
+    let t = c.args.table.now in
+    let n = c.args.n in
+    all_from_yields_List (λ x. eqb x 1) _ _ _ c.all.ensures.ran (YieldsList-from_slice (marks n t) cc) (λ x b q k. search (rules, tests))
+    ∙ all_list (λ x. eqb x 1) (marks n t)
+    ∙ part-all t (header + n + n) n (omega arith) (λ x. eqb x 1)

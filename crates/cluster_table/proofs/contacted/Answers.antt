@@ -1,20 +1,18 @@
--- What is left to prove of `contacted`. Assumes nothing.
-use Prim.Native.Nat.{zero-le}
-use native.Mathlib.Omega.{arith}
-use borrow.Author.Tests.{lt-ltb, le-ltb}
-use Rattle.base.proofs.Ranges.{count_none, count-hit, count-miss, count-end}
+-- `cluster_table::contacted` meets its contract: what `count` answers on the degrees that `filter` lets through. Assumes nothing.
+use Rattle.std.proofs.Common.{◌+◌, ◌∙◌, arith, rules, tests, ltb}
+use Rattle.std.proofs.lemmas.Iterator.{YieldsList-from_slice}
+use Rattle.std.proofs.lemmas.Iterator.Consumers.{YieldsList-from_filter, count_from_yields_List}
+use Rattle.std.proofs.lemmas.List.Sums.{length-filter}
+use Rattle.cluster_table.specs.Table.{header, degrees}
+use Rattle.cluster_table.proofs.Lists.{count_list, part-count}
 use Rattle.cluster_table.proofs.contacted.Goals as goal
-use Rattle.cluster_table.proofs.contacted.Goals.{then-table-n-gt0, else-table-n-gt0}
-
-pub loop-i-init : goal.loop-i-init
-loop-i-init c = (zero-le, zero-le, count_none _)
-
-pub loop-i-preserved : goal.loop-i-preserved
-loop-i-preserved c =
-    elim c.if-table-n-gt0.branch [
-      | then-table-n-gt0 w ↦ (omega arith, omega arith, count-hit _ _ _ _ c.loop-i.invariant.2 (lt-ltb _ _ w.if-table-n-gt0.true) w.k-is)
-      | else-table-n-gt0 w ↦ (omega arith, omega arith, count-miss _ _ _ _ c.loop-i.invariant.2 (le-ltb _ _ w.if-table-n-gt0.false) w.k-is)
-    ]
 
 pub returns : goal.returns
-returns c = count-end _ _ _ _ c.loop-i.invariant.2 c.loop-i.invariant.0 c.loop-i-test.false
+returns c =
+    let t = c.args.table.now in
+    let n = c.args.n in
+    count_from_yields_List c.filter.result _ c.count.ensures.ran
+    (YieldsList-from_filter _ (λ x. ltb 0 x) (YieldsList-from_slice (degrees n t) cc) c.filter.ensures.closure (λ x r q k. search (rules, tests)))
+    ∙ length-filter (λ x. ltb 0 x) (degrees n t)
+    ∙ count_list (λ x. ltb 0 x) (degrees n t)
+    ∙ part-count t (header + n) n (omega arith) (λ x. ltb 0 x)

@@ -21,5 +21,5 @@ returns c =
     let a = c.args in
     let r =
     open-taken _ _ _ (omega arith) (sym c.sound_reach.ensures ∙ c.if-not-sound_reach.false) c.if-table-n.false _
-    (c.open_table.ensures ∙ ap (λ (b : ℕ). opened a.n b a.table.now) c.to_bits32.ensures) in
+    (c.open_table.ensures ∙ ap (λ (b : ℕ). opened a.n b a.table.now) c.to_bits.ensures) in
     record { answer = r.0; after = r.1 }

@@ -1,46 +1,42 @@
 -- What is left to prove of `scan_row`. Assumes nothing.
-use mathlib.Core.Path.{◌≡◌, refl, sym, subst, ◌∙◌}
-use mathlib.Core.Bool.{Bool, true, false}
-use mathlib.Core.List.{List, []}
-use Prim.Native.Nat.{ℕ, ◌+◌, ◌≤◌, ◌<◌}
+mod Turns
+use mathlib.Core.Path.{◌≡◌, refl, ◌∙◌}
+use mathlib.Core.Bool.{true, false}
+use mathlib.Core.List.{[]}
+use Prim.Native.Nat.{ℕ, ◌+◌, ◌-◌, ◌≤◌, ◌<◌}
 use native.Mathlib.Omega.{arith}
 use lib.Ieee.{Float}
-use Rattle.cell.specs.declared.Vec3.{Vec3}
 use Rattle.cell.specs.Cell.{extent_of}
 use Rattle.base.specs.Refusals.{first_refusal}
 use Rattle.cell.specs.Reach.{sound_reach}
 use Rattle.pick_lists.specs.Sound.{copies, pick_list}
 use Rattle.pick_lists.specs.Input.{Input, given, input_refusals}
 use Rattle.touch.specs.Touch.{copies_touch}
-use Rattle.gates.specs.declared.Screen.{Screen}
-use Rattle.gates.specs.Inner.{screen_of}
+use Rattle.gates.specs.declared.AxisImages.{AxisImages}
+use Rattle.gates.specs.declared.Gate.{Gate}
+use Rattle.gates.specs.declared.PerAxis.{PerAxis}
+use Rattle.gates.specs.Inner.{gates_of, far_of, images_of, by_images, tested}
 use Rattle.spans.specs.declared.Span.{Span}
-use Rattle.spans.specs.Inner.{span_of, apart_from}
-use Rattle.spans.proofs.Between.{apart-copies, screen-tests}
+use Rattle.spans.specs.Inner.{span_of, apart_on, apart_from}
+use Rattle.spans.proofs.Between.{apart-copies, gates-tests, images-tests}
 use Rattle.spans.proofs.Past.{past-least}
 use Rattle.cluster_table.proofs.Checks.{ready_of}
 use Rattle.clusters.proofs.Accepted.{accepted-sound, accepted-lists, accepted-tested}
-use Rattle.clusters.proofs.Passes.{Run, run-first, run-skip, run-touch, run-over, run-last, run-asks}
-use borrow.Author.Rules.{rules}
-use Rattle.clusters.proofs.scan_row.Goals.{then-copies_touch, else-copies_touch}
+use Rattle.clusters.proofs.Passes.{run-first, run-over, run-last, run-asks}
+use Rattle.clusters.proofs.scan_row.Answers.Turns.{done}
 use Rattle.clusters.proofs.scan_row.Goals as goal
 
--- a copy that a screen of the cell keeps apart from the box of copy i does not touch copy i
-keeps :
-    (f : Input) (k : Float) (i : ℕ) (s : Span) → first_refusal (input_refusals f) ≡ 0 → sound_reach k ≡ true → i < copies f.starts
-    → s ≡ span_of f.solutes (pick_list f.starts f.picks i) → (g : Screen) (w : Bool) → g ≡ screen_of w k (extent_of f.cell) → (m : ℕ) → m < copies f.starts
-    → apart_from g f.solutes f.starts f.picks s m ≡ true → copies_touch f k i m ≡ false
-keeps f k i s none sound below box g w is m l e =
-    let h = accepted-tested f none k sound in
-    apart-copies f _ _ _ _ _ _ _ _ (accepted-sound f none) h (screen-tests _ _ _ h g w is) below l box refl e
+-- a copy that the tests of the axes keep apart from the box of copy i does not touch copy i
+module _ (f : Input) (k : Float) (i : ℕ) (s : Span) (none : first_refusal (input_refusals f) ≡ 0) (sound : sound_reach k ≡ true) (below : i < copies f.starts)
+    (box : s ≡ span_of f.solutes (pick_list f.starts f.picks i)) where
+  h : tested f.cell k f.solutes ≡ true
+  h = accepted-tested f none k sound
 
--- the same screen, wide or not
-widened_is : (s r : Screen) (w : Bool) (k : Float) (e : Vec3) → s ≡ screen_of false k e → r ≡ record { wide = w; cutoff = s.cutoff; e = s.e; g = s.g } → r ≡ screen_of w k e
-unfolding screen_of
-widened_is s r w k e is h = rw (h, is)
+  over-gates : (g : PerAxis Gate) → g ≡ gates_of k (extent_of f.cell) → (m : ℕ) → m < copies f.starts → apart_from (apart_on far_of g) f.solutes f.starts f.picks s m ≡ true → copies_touch f k i m ≡ false
+  over-gates g is m l e = apart-copies f _ _ _ _ _ _ _ _ (accepted-sound f none) h (gates-tests _ _ _ h g is) below l box refl e
 
-carry : {touch : ℕ → ℕ → Bool} {n i j : ℕ} {t₀ t t' : List ℕ} → t' ≡ t → Run touch n i t₀ t j → Run touch n i t₀ t' j
-carry {touch} {n} {i} {j} {t₀} e r = subst (λ (x : List ℕ). Run touch n i t₀ x j) (sym e) r
+  over-images : (g : PerAxis AxisImages) → g ≡ images_of k (extent_of f.cell) → (m : ℕ) → m < copies f.starts → apart_from (apart_on by_images g) f.solutes f.starts f.picks s m ≡ true → copies_touch f k i m ≡ false
+  over-images g is m l e = apart-copies f _ _ _ _ _ _ _ _ (accepted-sound f none) h (images-tests _ _ _ h g is) below l box refl e
 
 pub overflow_sub-n : goal.overflow_sub-n
 overflow_sub-n c = omega (arith, (accepted-lists _ c.requires.picks_value.0).number)
@@ -58,7 +54,7 @@ pub loop-j-init : goal.loop-j-init
 loop-j-init c =
     let ls = accepted-lists _ c.requires.picks_value.0 in
     rw c.next_close-j.ensures
-    (run-over _ (keeps (given _ _ [] _ _) _ _ _ c.requires.picks_value.0 c.requires.picks_value.1 c.requires.starts_in_bounds.2 c.copy_span-s.ensures _ _ c.screen_of-g.ensures) _ _ (omega (arith, c.requires.starts_in_bounds.2)) (run-first ls.few c.requires.starts_in_bounds.0 c.requires.starts_in_bounds.2 (ready_of _ _ ls.few c.requires.starts_in_bounds.1)))
+    (run-over _ (over-gates (given _ _ [] _ _) _ _ _ c.requires.picks_value.0 c.requires.picks_value.1 c.requires.starts_in_bounds.2 c.copy_span-s.ensures _ c.gates_of-g.ensures) _ _ (omega (arith, c.requires.starts_in_bounds.2)) (run-first ls.few c.requires.starts_in_bounds.0 c.requires.starts_in_bounds.2 (ready_of _ _ ls.few c.requires.starts_in_bounds.1)))
 
 pub copy_span-c-requires : goal.copy_span-c-requires
 copy_span-c-requires c = record { picks_value = accepted-sound _ c.requires.picks_value.0; j_bound = c.loop-j-test.true }
@@ -72,32 +68,39 @@ add_contact-requires c = let r = run-asks c.loop-j.invariant (accepted-lists _ c
 pub overflow_add-j : goal.overflow_add-j
 overflow_add-j c = omega (arith, (accepted-lists _ c.requires.picks_value.0).few)
 
-pub next_close-j-requires-in-loop-j : goal.next_close-j-requires-in-loop-j
-next_close-j-requires-in-loop-j c = record { picks_value = accepted-sound _ c.requires.picks_value.0; j_bound = omega (arith, c.loop-j-test.true) }
+pub next_close-j-requires-then-wide : goal.next_close-j-requires-then-wide
+next_close-j-requires-then-wide c = record { picks_value = accepted-sound _ c.requires.picks_value.0; j_bound = omega (arith, c.loop-j-test.true) }
+
+pub next_close-j-requires-else-wide : goal.next_close-j-requires-else-wide
+next_close-j-requires-else-wide c = record { picks_value = accepted-sound _ c.requires.picks_value.0; j_bound = omega (arith, c.loop-j-test.true) }
+
+pub loop-j-smaller-then-wide : goal.loop-j-smaller-then-wide
+loop-j-smaller-then-wide c =
+    let on : c.loop-j.j + 1 ≤ c.next_close-j-then-wide.result = rw c.next_close-j-then-wide.ensures (past-least _ _ _) in
+    omega (arith, c.loop-j-test.true)
 
 pub loop-j-smaller : goal.loop-j-smaller
 loop-j-smaller c =
-    let on : c.loop-j.j + 1 ≤ c.next_close-j-in-loop-j.result = rw c.next_close-j-in-loop-j.ensures (past-least _ _ _) in
+    let on : c.loop-j.j + 1 ≤ c.next_close-j-else-wide.result = rw c.next_close-j-else-wide.ensures (past-least _ _ _) in
     omega (arith, c.loop-j-test.true)
+
+pub loop-j-preserved-then-wide : goal.loop-j-preserved-then-wide
+loop-j-preserved-then-wide c =
+    let l = c.loop-j-test.true in
+    let images = rw c.extent-e.ensures at c.images_of.ensures in
+    rw c.next_close-j-then-wide.ensures
+    (run-over _ (over-images (given _ _ [] _ _) _ _ _ c.requires.picks_value.0 c.requires.picks_value.1 c.requires.starts_in_bounds.2 c.copy_span-s.ensures _ images) _ _ (omega (arith, l))
+    (done (goal.at.loop-j-preserved-then-wide c).After-outside-wide))
 
 pub loop-j-preserved : goal.loop-j-preserved
 loop-j-preserved c =
-    let a = c.loop-j in
     let l = c.loop-j-test.true in
-    let touch = c.copies_touch.ensures in
-    rw c.next_close-j-in-loop-j.ensures
-    (run-over _
-    (keeps (given _ _ [] _ _) _ _ _ c.requires.picks_value.0 c.requires.picks_value.1 c.requires.starts_in_bounds.2 c.copy_span-s.ensures _ _ (widened_is _ _ _ _ _ c.screen_of-g.ensures c.widened.ensures)) _ _ (omega (arith, l))
-    (elim c.if-copies_touch.branch [
-      | then-copies_touch w ↦ carry (w.table-is ∙ w.add_contact.ensures) (run-touch a.invariant l (sym touch ∙ w.if-copies_touch.true))
-      | else-copies_touch w ↦ carry w.table-is (run-skip a.invariant l (sym touch ∙ w.if-copies_touch.false))
-    ]))
+    rw c.next_close-j-else-wide.ensures
+    (run-over _ (over-gates (given _ _ [] _ _) _ _ _ c.requires.picks_value.0 c.requires.picks_value.1 c.requires.starts_in_bounds.2 c.copy_span-s.ensures _ c.gates_of-g.ensures) _ _ (omega (arith, l))
+    (done (goal.at.loop-j-preserved c).After-outside-wide))
 
 pub set_mark-requires : goal.set_mark-requires
 set_mark-requires c = ((accepted-lists _ c.requires.picks_value.0).few, c.loop-j.invariant.long, c.requires.starts_in_bounds.2)
-
-pub shape_of-table : goal.shape_of-table
-shape_of-table c = search (rules, c.loop-j.invariant.same)
 
 pub returns : goal.returns
 returns c = c.set_mark.ensures ∙ run-last c.loop-j.invariant c.loop-j-test.false

@@ -1,5 +1,5 @@
 -- `clusters::scan_row` meets its contract. Invariant, before copy j is tested: what is left of the pass over the table gives what the
--- whole pass gives over the table at entry, and the table is ready for one more contact (`Run`); measure n - j. Copies that a screen keeps apart from
+-- whole pass gives over the table at entry, and the table is ready for one more contact (`Run`); measure n - j. Copies that the tests of the axes keep apart from
 -- copy i do not touch it, by gates or by images, so that the pass goes on at the first of the others (`run-over`). Assumes nothing.
 use mathlib.Core.List.{[]}
 use Prim.Native.Nat.{◌-◌}

@@ -1,12 +1,8 @@
--- `dispersion::block_sum` meets its contract. The loop's invariant: the squares from `k` on, added to the sum, give the block's (`added`), and
--- where they are sure that is the row's (`added-row`). Assumes nothing.
-use Prim.Native.Nat.{◌≤◌, ◌-◌}
-use mathlib.Core.Path.{◌≡◌}
-use Rattle.dispersion.proofs.Sums.{added}
+-- `dispersion::block_sum` meets its contract. The loop's invariant: the squares from the loop's index on, added to the sum, give the block's.
+-- Assumes nothing.
+use Rattle.std.proofs.Common.{◌≡◌, ◌+◌, ◌-◌}
+use Rattle.dispersion.specs.Dispersion.{row_sum}
 use Rattle.dispersion.proofs.block_sum.Given as goal
 
-abbrev pub invariant-loop-k : goal.invariant-loop-k
-invariant-loop-k l = (l.k ≤ 16) × (added l.squares l.k (16 - l.k) l.sum ≡ added l.squares 0 16 l.s)
-
-abbrev pub decreases-loop-k : goal.decreases-loop-k
-decreases-loop-k l = 16 - l.k
+abbrev pub invariant-loop-square : goal.invariant-loop-square
+invariant-loop-square l = row_sum l.fn.e l.centers l.i (16 - l.square-index) (l.j + l.square-index) l.sum ≡ row_sum l.fn.e l.centers l.i 16 l.j l.s

@@ -1,13 +1,11 @@
 -- What is left to prove of `row_sum`. Assumes nothing.
-use mathlib.Core.Path.{sym, ◌∙◌}
-use borrow.Author.Rules.{rules}
+use Rattle.std.proofs.Common.{◌≡◌, ◌+◌, ◌*◌, sym, ◌∙◌, arith}
 use Rattle.dispersion.proofs.Sums.{row_block}
 use Rattle.dispersion.proofs.row_sum.Goals as goal
 
-pub loop-j-preserved : goal.loop-j-preserved
-loop-j-preserved c =
-    let next = row_block c.args.e c.args.centers.now c.args.n c.args.i c.loop-j.j 16 c.loop-j.sum c.loop-j-test.true in
-    (search rules, search rules, rw c.block_sum-sum.ensures (sym next ∙ c.loop-j.invariant.2))
-
-pub returns : goal.returns
-returns c = c.stretch_sum.ensures ∙ c.loop-j.invariant.2
+pub loop-b-preserved : goal.loop-b-preserved
+loop-b-preserved c =
+    let from = c.args.i + 1 + c.loop-b.b * 16 in
+    let next = row_block c.args.e c.args.centers.now c.args.n c.args.i from 16 c.loop-b.sum (omega arith) in
+    let at : c.args.i + 1 + (c.loop-b.b + 1) * 16 ≡ from + 16 = omega arith in
+    rw (at, c.block_sum-sum.ensures) (sym next ∙ c.loop-b.invariant)

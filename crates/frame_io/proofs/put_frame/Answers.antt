@@ -10,7 +10,7 @@ pub returns-clause-length : goal.returns-clause-length
 returns-clause-length g c =
     let buffer = c.read_full.new.buf in
     let held = take c.in_ok-n.n buffer in
-    record { input = held; all = (c.put_input-m.ensures.text held (sym (take_all (length buffer) held (search rules)))).0 }
+    record { input = held; all = (c.put_input-m.ensures.text held (sym (take_all (length buffer) held (search (rules, c.in_ok-n.ensures.bound.0))))).0 }
 
 pub returns-clause-count : goal.returns-clause-count
 returns-clause-count g c =

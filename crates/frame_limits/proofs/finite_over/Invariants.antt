@@ -1,14 +1,10 @@
--- `frame_limits::finite_over` meets its contract. The loop's invariant: what was found before `i`, or what is left of the list from there
--- on, decides. The measure is what is left of the length. Assumes nothing.
-use Prim.Native.Nat.{◌≤◌, ◌-◌}
+-- `frame_limits::finite_over` meets its contract. The loop's invariant: what was found so far, or what is left of the list, decides.
+-- Assumes nothing.
 use mathlib.Core.Path.{◌≡◌}
 use mathlib.Core.Bool.{◌||◌}
-use lib.ListN.{length, drop}
+use lib.ListN.{drop}
 use Rattle.frame_limits.specs.Limits.{exceeds, any, max_coordinate}
 use Rattle.frame_limits.proofs.finite_over.Given as goal
 
-abbrev pub invariant-loop-i : goal.invariant-loop-i
-invariant-loop-i l = (l.i ≤ length l.xs) × ((l.any || any (exceeds max_coordinate) (drop l.i l.xs)) ≡ any (exceeds max_coordinate) l.xs)
-
-abbrev pub decreases-loop-i : goal.decreases-loop-i
-decreases-loop-i l = length l.xs - l.i
+abbrev pub invariant-loop-x : goal.invariant-loop-x
+invariant-loop-x l = (l.over || any (exceeds max_coordinate) (drop l.x-index l.xs)) ≡ any (exceeds max_coordinate) l.xs

@@ -2,9 +2,6 @@
 use Rattle.gates.specs.Inner.{gate_start, certified}
 use Rattle.gates.proofs.certified.Goals as goal
 
-pub ends_at-g-requires : goal.ends_at-g-requires
-ends_at-g-requires c = c.requires
-
 pub returns : goal.returns
 unfolding certified gate_start
 returns c = rw (c.short.ensures, c.short-2.ensures, c.holds.ensures, c.ends_at-g.ensures)

@@ -4,4 +4,4 @@ use Rattle.gates.proofs.guess.Goals as goal
 
 pub returns : goal.returns
 unfolding guess_of
-returns c = rw c.to_bits32.ensures
+returns c = rw c.to_bits.ensures

@@ -1,13 +1,7 @@
--- `leaf::count_folded` meets its contract. The loop's invariant: where all waters before i are sure, n of them are in the shell (`Seeing`).
--- Measure: m - i. Assumes nothing.
-use mathlib.Core.Path.{◌≡◌}
-use mathlib.Core.Bool.{true}
-use Prim.Native.Nat.{◌-◌, ◌≤◌}
-use Rattle.leaf.proofs.ShellCount.{Seeing}
+-- `leaf::count_folded` meets its contract. The loop's invariant: of the waters before i, n are in the shell. Assumes nothing.
+use Rattle.std.proofs.Common.{◌≡◌, ◌+◌, ◌-◌, ◌≤◌}
+use Rattle.leaf.specs.Leaf.{shell_from}
 use Rattle.leaf.proofs.count_folded.Given as goal
 
 abbrev pub invariant-loop-i : goal.invariant-loop-i
-invariant-loop-i l = (l.i ≤ l.m) × (l.n ≤ l.i) × (l.sure ≡ true → Seeing l.cell l.b l.waters l.m l.i l.n)
-
-abbrev pub decreases-loop-i : goal.decreases-loop-i
-decreases-loop-i l = l.m - l.i
+invariant-loop-i l = (l.n ≤ l.i) × (l.n + shell_from l.cell l.b l.waters (l.m - l.i) l.i ≡ shell_from l.cell l.b l.waters l.m 0)

@@ -12,31 +12,27 @@ use Rattle.listing.proofs.put_listing.Goals as goal
 pub returns-then-leaves-count : goal.returns-then-leaves-count
 returns-then-leaves-count c =
     let a = c.args in
-    cramped _ _ _ (rw (lt-ltb (length a.leaves.now) (a.count * 8) (omega arith)))
+    cramped _ _ _ (rw (lt-ltb (length a.leaves.now) (a.m.report.leaves * 8) (omega arith)))
 
 pub returns-then-out-head : goal.returns-then-out-head
 returns-then-out-head c =
     let a = c.args in
-    let size = length-listing a.copies a.largest a.contacted a.pair a.dispersion a.nodes a.depth a.leaves.now a.count a.dry in
-    cramped-room _ _ _ (omega (arith, size))
+    cramped-room _ _ _ (omega (arith, length-listing c.args.m c.args.leaves.now))
 
 pub returns-then-not-leaves_fit : goal.returns-then-not-leaves_fit
 returns-then-not-leaves_fit c =
     let a = c.args in
-    let size = length-listing a.copies a.largest a.contacted a.pair a.dispersion a.nodes a.depth a.leaves.now a.count a.dry in
     let over = leb-false _ _ (sym c.leaves_fit.ensures ∙ c.if-not-leaves_fit.true) in
-    cramped-room _ _ _ (omega (arith, over, size))
+    cramped-room _ _ _ (omega (arith, over, length-listing c.args.m c.args.leaves.now))
 
 pub put_lines-requires : goal.put_lines-requires
 put_lines-requires c =
     let a = c.args in
-    let size = length-listing a.copies a.largest a.contacted a.pair a.dispersion a.nodes a.depth a.leaves.now a.count a.dry in
     let fits = leb-true _ _ (sym c.leaves_fit.ensures ∙ c.if-not-leaves_fit.false) in
-    (omega arith, omega (arith, fits, size))
+    (omega arith, omega (arith, fits, length-listing c.args.m c.args.leaves.now))
 
 pub returns : goal.returns
 returns c =
     let a = c.args in
-    let size = length-listing a.copies a.largest a.contacted a.pair a.dispersion a.nodes a.depth a.leaves.now a.count a.dry in
     let fits = leb-true _ _ (sym c.leaves_fit.ensures ∙ c.if-not-leaves_fit.false) in
-    written-room _ _ _ (le-ltb (length a.leaves.now) (a.count * 8) (omega arith)) (omega (arith, fits, size)) c.put_lines.ensures
+    written-room _ _ _ (le-ltb (length a.leaves.now) (a.m.report.leaves * 8) (omega arith)) (omega (arith, fits, length-listing c.args.m c.args.leaves.now)) c.put_lines.ensures

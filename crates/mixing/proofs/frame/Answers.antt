@@ -1,268 +1,199 @@
--- `mixing::frame` meets its contract: each return knows the tests before it, and one law says what it answers and leaves (Outcomes);
--- the cores get what the tests establish, over the pick lists at the start of both tables (Tested). Assumes nothing.
-use mathlib.Core.Path.{◌≡◌, sym, ap, ap₂, ◌∙◌}
-use mathlib.Core.Bool.{false}
+-- `mixing::frame` meets its contract: each return knows the tests before it, and one law says what it answers and leaves (Outcomes); what a step
+-- knows is one law too (Steps). The cores get what the tests establish, over the pick lists at the start of both tables (Tested). Assumes nothing.
+use mathlib.Core.Path.{sym, ap, ◌∙◌}
 use mathlib.Core.List.{List, []}
-use Prim.Native.Nat.{ℕ, ◌+◌, ◌≤◌}
+use Prim.Native.Nat.{ℕ}
 use native.Mathlib.Omega.{arith}
-use lib.ListN.{length, take}
 use borrow.Author.Rules.{rules}
-use Rattle.base.specs.Refusals.{first_refusal}
-use Rattle.base.specs.Tables.{over}
+use Rattle.std.proofs.lemmas.Result.{err_from_is_err_and}
+use Rattle.base.specs.Refusals.{answer_of}
 use Rattle.cluster_table.specs.Fractions.{table_fractions}
 use Rattle.scan.specs.Scan.{scanned}
 use Rattle.dispersion.specs.Dispersion.{dispersion_of}
 use Rattle.pick_lists.specs.Input.{Input, given}
 use Rattle.report.specs.Inner.{core_answer}
+use Rattle.mixing.specs.Frame.{frame_of, frame_tables, kept, start_list, pick_numbers, limited}
+use Rattle.mixing.proofs.Outcomes.{outcome-limit, outcome-blank, outcome-size}
+use Rattle.mixing.proofs.Steps.{Counts, limits-hold, blank-is-tested, size-is-tested, passed, lists-are, lists-fitted, told-refused, told, left}
 use Rattle.report.proofs.ReportOutcomes.{report-told}
-use Rattle.mixing.specs.Inner.{with_report}
-use Rattle.frame_tests.specs.Tests.{is_blank}
-use Rattle.mixing.specs.Frame.{Frame, FrameTables, frame_of, frame_tables, kept, start_list, pick_numbers, scan_input, tree_input, sized, limited, blank_holds}
-use Rattle.mixing.proofs.Outcomes.{Passed, room_number, outcome-limit, outcome-blank, outcome-size, answer-worked}
-use Rattle.mixing.proofs.Cores.{cores-answer}
-use Rattle.mixing.proofs.Tested.{solutes-few, indices-few, room, lists-fit, fine, cores-fit, lists-sound, table-sound, cores_leave, worked-tables, starts-lent, picks-lent, starts-taken, picks-taken}
+use Rattle.mixing.proofs.Tested.{solutes-few, indices-few, room, fine, cores-fit, lists-fit, lists-sound, table-sound, starts-taken, picks-taken}
 use Rattle.mixing.proofs.frame.Goals as goal
 
-pub returns-then-refusal-ne0 : goal.returns-then-refusal-ne0
+pub returns-in_err-limit_refusal : goal.returns-in_err-limit_refusal
 unfolding limited
-returns-then-refusal-ne0 c =
-    let frame-of : Frame = frame_of c.args.cell c.args.cutoff c.args.solutes.now c.args.per c.args.indices.now c.args.waters.now in
-    let tables-of : FrameTables =
-    frame_tables c.args.starts.now c.args.picks.now c.args.clusters.now c.args.center_order.now c.args.water_order.now c.args.records.now
-    c.args.boxes.now c.args.leaves.now in
-    let r = outcome-limit frame-of tables-of c.limit_refusal-refusal.result c.limit_refusal-refusal.ensures c.if-refusal-ne0.true in record { answer = r.0; after = r.1 }
+returns-in_err-limit_refusal c =
+    let a = c.args in
+    let f = frame_of a.cell a.cutoff a.solutes.now a.per a.indices.now a.waters.now in
+    let t = frame_tables a.starts.now a.picks.now a.clusters.now a.center_order.now a.water_order.now a.records.now a.boxes.now a.leaves.now in
+    let p = err_from_is_err_and c.from_residual.result c.from_residual.ensures.1 in
+    let r = outcome-limit f t _ c.in_err-limit_refusal.ensures in
+    record { answer = rw (p.1, p.2) r.0; after = r.1 }
 
 pub count-n-requires : goal.count-n-requires
-unfolding limited
 count-n-requires c =
-    let frame-of : Frame = frame_of c.args.cell c.args.cutoff c.args.solutes.now c.args.per c.args.indices.now c.args.waters.now in
-    let limits-hold : first_refusal (limited (frame-of)) ≡ 0 = sym c.limit_refusal-refusal.ensures ∙ c.if-refusal-ne0.false in
-    let f = frame-of in (solutes-few f limits-hold, indices-few f limits-hold)
+    let a = c.args in
+    let f = frame_of a.cell a.cutoff a.solutes.now a.per a.indices.now a.waters.now in
+    let h = limits-hold f c.in_ok-limit_refusal.ensures in
+    (solutes-few f h, indices-few f h)
 
 pub returns-then-is_blank : goal.returns-then-is_blank
-unfolding kept blank_holds limited
 returns-then-is_blank c =
-    let frame-of : Frame = frame_of c.args.cell c.args.cutoff c.args.solutes.now c.args.per c.args.indices.now c.args.waters.now in
-    let copies-counted : c.count-n.result.copies ≡ length (kept (frame-of)) = c.count-n.ensures.0 in
-    let blank-tested : c.is_blank.result ≡ blank_holds (frame-of) = c.is_blank.ensures ∙ ap₂ (is_blank c.args.cell c.args.solutes.now c.args.waters.now) (copies-counted) c.count_waters-finite.ensures in
-    let limits-hold : first_refusal (limited (frame-of)) ≡ 0 = sym c.limit_refusal-refusal.ensures ∙ c.if-refusal-ne0.false in
-    let tables-of : FrameTables =
-    frame_tables c.args.starts.now c.args.picks.now c.args.clusters.now c.args.center_order.now c.args.water_order.now c.args.records.now
-    c.args.boxes.now c.args.leaves.now in
-    let r = outcome-blank frame-of tables-of limits-hold (sym blank-tested ∙ c.if-is_blank.true) in record { answer = r.0; after = r.1 }
+    let a = c.args in
+    let f = frame_of a.cell a.cutoff a.solutes.now a.per a.indices.now a.waters.now in
+    let t = frame_tables a.starts.now a.picks.now a.clusters.now a.center_order.now a.water_order.now a.records.now a.boxes.now a.leaves.now in
+    let counted : Counts f c.count-n.result c.count_waters-finite.result = (c.count-n.ensures.0, c.count-n.ensures.1, c.count_waters-finite.ensures) in
+    let r = outcome-blank f t (limits-hold f c.in_ok-limit_refusal.ensures) (sym (blank-is-tested f _ _ counted _ c.is_blank.ensures) ∙ c.if-is_blank.true) in
+    record { answer = r.0; after = r.1 }
 
-pub returns-then-size-ne0 : goal.returns-then-size-ne0
-unfolding limited kept blank_holds pick_numbers sized
-returns-then-size-ne0 c =
-    let frame-of : Frame = frame_of c.args.cell c.args.cutoff c.args.solutes.now c.args.per c.args.indices.now c.args.waters.now in
-    let limits-hold : first_refusal (limited (frame-of)) ≡ 0 = sym c.limit_refusal-refusal.ensures ∙ c.if-refusal-ne0.false in
-    let copies-counted : c.count-n.result.copies ≡ length (kept (frame-of)) = c.count-n.ensures.0 in
-    let blank-tested : c.is_blank.result ≡ blank_holds (frame-of) = c.is_blank.ensures ∙ ap₂ (is_blank c.args.cell c.args.solutes.now c.args.waters.now) (copies-counted) c.count_waters-finite.ensures in
-    let not-blank : blank_holds (frame-of) ≡ false = sym (blank-tested) ∙ c.if-is_blank.false in
-    let picks-counted : c.count-n.result.picks ≡ length (pick_numbers (frame-of)) = c.count-n.ensures.1 in
-    let tables-of : FrameTables =
-    frame_tables c.args.starts.now c.args.picks.now c.args.clusters.now c.args.center_order.now c.args.water_order.now c.args.records.now
-    c.args.boxes.now c.args.leaves.now in
-    let size-tested : c.size_refusal-size.result ≡ first_refusal (sized (frame-of) (tables-of)) = c.size_refusal-size.ensures ∙ rw (copies-counted, picks-counted, c.count_waters-finite.ensures) in
-    let r = outcome-size frame-of tables-of limits-hold not-blank c.size_refusal-size.result size-tested c.if-size-ne0.true in record { answer = r.0; after = r.1 }
+pub returns-in_err-size_refusal : goal.returns-in_err-size_refusal
+returns-in_err-size_refusal c =
+    let a = c.args in
+    let f = frame_of a.cell a.cutoff a.solutes.now a.per a.indices.now a.waters.now in
+    let t = frame_tables a.starts.now a.picks.now a.clusters.now a.center_order.now a.water_order.now a.records.now a.boxes.now a.leaves.now in
+    let counted : Counts f c.count-n.result c.count_waters-finite.result = (c.count-n.ensures.0, c.count-n.ensures.1, c.count_waters-finite.ensures) in
+    let p = err_from_is_err_and c.from_residual-in_err-size_refusal.result c.from_residual-in_err-size_refusal.ensures.1 in
+    let not-blank = sym (blank-is-tested f _ _ counted _ c.is_blank.ensures) ∙ c.if-is_blank.false in
+    let r = outcome-size f t (limits-hold f c.in_ok-limit_refusal.ensures) not-blank _ (c.in_err-size_refusal.ensures ∙ ap answer_of (size-is-tested f _ _ counted t)) in
+    record { answer = rw (p.1, p.2) r.0; after = r.1 }
 
 pub fill-requires : goal.fill-requires
-unfolding pick_numbers kept limited sized blank_holds
+unfolding kept pick_numbers
 fill-requires c =
-    let frame-of : Frame = frame_of c.args.cell c.args.cutoff c.args.solutes.now c.args.per c.args.indices.now c.args.waters.now in
-    let limits-hold : first_refusal (limited (frame-of)) ≡ 0 = sym c.limit_refusal-refusal.ensures ∙ c.if-refusal-ne0.false in
-    let picks-counted : c.count-n.result.picks ≡ length (pick_numbers (frame-of)) = c.count-n.ensures.1 in
-    let copies-counted : c.count-n.result.copies ≡ length (kept (frame-of)) = c.count-n.ensures.0 in
-    let tables-of : FrameTables =
-    frame_tables c.args.starts.now c.args.picks.now c.args.clusters.now c.args.center_order.now c.args.water_order.now c.args.records.now
-    c.args.boxes.now c.args.leaves.now in
-    let size-tested : c.size_refusal-size.result ≡ first_refusal (sized (frame-of) (tables-of)) = c.size_refusal-size.ensures ∙ rw (copies-counted, picks-counted, c.count_waters-finite.ensures) in
-    let blank-tested : c.is_blank.result ≡ blank_holds (frame-of) = c.is_blank.ensures ∙ ap₂ (is_blank c.args.cell c.args.solutes.now c.args.waters.now) (copies-counted) c.count_waters-finite.ensures in
-    let not-blank : blank_holds (frame-of) ≡ false = sym (blank-tested) ∙ c.if-is_blank.false in
-    let passed : Passed (frame-of) (tables-of) = record { within = limits-hold; some = not-blank; fits = sym (size-tested) ∙ c.if-size-ne0.false } in
-    let lists-fitted : (length (kept (frame-of)) + 1 ≤ length c.args.starts.now) × (length (pick_numbers (frame-of)) ≤ length c.args.picks.now) = lists-fit (frame-of) (tables-of) (passed) in
-    record { xs_len_bound = (solutes-few frame-of passed.within, (room frame-of tables-of passed).light); indices_in_bounds = omega (arith, lists-fitted.0, lists-fitted.1) }
+    let a = c.args in
+    let f = frame_of a.cell a.cutoff a.solutes.now a.per a.indices.now a.waters.now in
+    let t = frame_tables a.starts.now a.picks.now a.clusters.now a.center_order.now a.water_order.now a.records.now a.boxes.now a.leaves.now in
+    let counted : Counts f c.count-n.result c.count_waters-finite.result = (c.count-n.ensures.0, c.count-n.ensures.1, c.count_waters-finite.ensures) in
+    let p = passed f c.count-n.result _ counted t _ c.in_ok-limit_refusal.ensures c.is_blank.ensures c.if-is_blank.false c.in_ok-size_refusal.ensures in
+    let fitted = lists-fitted f c.count-n.result _ counted t p in
+    record { xs_len_bound = (solutes-few f p.within, (room f t p).light); indices_in_bounds = omega (arith, (lists-fit f t p).0, (lists-fit f t p).1) }
 
 pub overflow_add-firsts : goal.overflow_add-firsts
-unfolding kept limited pick_numbers sized blank_holds
+unfolding kept
 overflow_add-firsts c =
-    let frame-of : Frame = frame_of c.args.cell c.args.cutoff c.args.solutes.now c.args.per c.args.indices.now c.args.waters.now in
-    let copies-counted : c.count-n.result.copies ≡ length (kept (frame-of)) = c.count-n.ensures.0 in
-    let limits-hold : first_refusal (limited (frame-of)) ≡ 0 = sym c.limit_refusal-refusal.ensures ∙ c.if-refusal-ne0.false in
-    let picks-counted : c.count-n.result.picks ≡ length (pick_numbers (frame-of)) = c.count-n.ensures.1 in
-    let tables-of : FrameTables =
-    frame_tables c.args.starts.now c.args.picks.now c.args.clusters.now c.args.center_order.now c.args.water_order.now c.args.records.now
-    c.args.boxes.now c.args.leaves.now in
-    let size-tested : c.size_refusal-size.result ≡ first_refusal (sized (frame-of) (tables-of)) = c.size_refusal-size.ensures ∙ rw (copies-counted, picks-counted, c.count_waters-finite.ensures) in
-    let blank-tested : c.is_blank.result ≡ blank_holds (frame-of) = c.is_blank.ensures ∙ ap₂ (is_blank c.args.cell c.args.solutes.now c.args.waters.now) (copies-counted) c.count_waters-finite.ensures in
-    let not-blank : blank_holds (frame-of) ≡ false = sym (blank-tested) ∙ c.if-is_blank.false in
-    let passed : Passed (frame-of) (tables-of) = record { within = limits-hold; some = not-blank; fits = sym (size-tested) ∙ c.if-size-ne0.false } in
-    search (rules, (room frame-of tables-of passed).few, copies-counted)
+    let a = c.args in
+    let f = frame_of a.cell a.cutoff a.solutes.now a.per a.indices.now a.waters.now in
+    let t = frame_tables a.starts.now a.picks.now a.clusters.now a.center_order.now a.water_order.now a.records.now a.boxes.now a.leaves.now in
+    let counted : Counts f c.count-n.result c.count_waters-finite.result = (c.count-n.ensures.0, c.count-n.ensures.1, c.count_waters-finite.ensures) in
+    let p = passed f c.count-n.result _ counted t _ c.in_ok-limit_refusal.ensures c.is_blank.ensures c.if-is_blank.false c.in_ok-size_refusal.ensures in
+    search (rules, (room f t p).few, counted.0)
 
 pub slice_bounds-firsts-end : goal.slice_bounds-firsts-end
-unfolding kept limited pick_numbers sized blank_holds
 slice_bounds-firsts-end c =
-    let frame-of : Frame = frame_of c.args.cell c.args.cutoff c.args.solutes.now c.args.per c.args.indices.now c.args.waters.now in
-    let copies-counted : c.count-n.result.copies ≡ length (kept (frame-of)) = c.count-n.ensures.0 in
-    let limits-hold : first_refusal (limited (frame-of)) ≡ 0 = sym c.limit_refusal-refusal.ensures ∙ c.if-refusal-ne0.false in
-    let picks-counted : c.count-n.result.picks ≡ length (pick_numbers (frame-of)) = c.count-n.ensures.1 in
-    let tables-of : FrameTables =
-    frame_tables c.args.starts.now c.args.picks.now c.args.clusters.now c.args.center_order.now c.args.water_order.now c.args.records.now
-    c.args.boxes.now c.args.leaves.now in
-    let size-tested : c.size_refusal-size.result ≡ first_refusal (sized (frame-of) (tables-of)) = c.size_refusal-size.ensures ∙ rw (copies-counted, picks-counted, c.count_waters-finite.ensures) in
-    let blank-tested : c.is_blank.result ≡ blank_holds (frame-of) = c.is_blank.ensures ∙ ap₂ (is_blank c.args.cell c.args.solutes.now c.args.waters.now) (copies-counted) c.count_waters-finite.ensures in
-    let not-blank : blank_holds (frame-of) ≡ false = sym (blank-tested) ∙ c.if-is_blank.false in
-    let passed : Passed (frame-of) (tables-of) = record { within = limits-hold; some = not-blank; fits = sym (size-tested) ∙ c.if-size-ne0.false } in
-    let lists-fitted : (length (kept (frame-of)) + 1 ≤ length c.args.starts.now) × (length (pick_numbers (frame-of)) ≤ length c.args.picks.now) = lists-fit (frame-of) (tables-of) (passed) in
-    search (rules, lists-fitted.0, copies-counted)
+    let a = c.args in
+    let f = frame_of a.cell a.cutoff a.solutes.now a.per a.indices.now a.waters.now in
+    let t = frame_tables a.starts.now a.picks.now a.clusters.now a.center_order.now a.water_order.now a.records.now a.boxes.now a.leaves.now in
+    let counted : Counts f c.count-n.result c.count_waters-finite.result = (c.count-n.ensures.0, c.count-n.ensures.1, c.count_waters-finite.ensures) in
+    let p = passed f c.count-n.result _ counted t _ c.in_ok-limit_refusal.ensures c.is_blank.ensures c.if-is_blank.false c.in_ok-size_refusal.ensures in
+    search (rules, (lists-fitted f c.count-n.result _ counted t p).0)
 
 pub slice_bounds-firsts-end-2 : goal.slice_bounds-firsts-end-2
-unfolding kept start_list
+unfolding kept start_list pick_numbers
 slice_bounds-firsts-end-2 c =
-    let frame-of : Frame = frame_of c.args.cell c.args.cutoff c.args.solutes.now c.args.per c.args.indices.now c.args.waters.now in
-    let copies-counted : c.count-n.result.copies ≡ length (kept (frame-of)) = c.count-n.ensures.0 in
-    let starts-written : c.fill.new.starts ≡ over (start_list (frame-of)) c.args.starts.now = c.fill.ensures.starts_after in
-    let starts-are : take (c.count-n.result.copies + 1) c.fill.new.starts ≡ start_list (frame-of) = ap (take (c.count-n.result.copies + 1)) (starts-written) ∙ starts-lent (frame-of) _ _ (copies-counted) in
-    starts-taken frame-of _ _ copies-counted starts-are
+    let a = c.args in
+    let f = frame_of a.cell a.cutoff a.solutes.now a.per a.indices.now a.waters.now in
+    let t = frame_tables a.starts.now a.picks.now a.clusters.now a.center_order.now a.water_order.now a.records.now a.boxes.now a.leaves.now in
+    let counted : Counts f c.count-n.result c.count_waters-finite.result = (c.count-n.ensures.0, c.count-n.ensures.1, c.count_waters-finite.ensures) in
+    let p = passed f c.count-n.result _ counted t _ c.in_ok-limit_refusal.ensures c.is_blank.ensures c.if-is_blank.false c.in_ok-size_refusal.ensures in
+    let l = lists-are f c.count-n.result _ counted _ _ _ _ c.fill.ensures.starts_after c.fill.ensures.picks_after in
+    starts-taken f _ _ counted.0 l.0
 
 pub slice_bounds-picked-end : goal.slice_bounds-picked-end
-unfolding limited kept pick_numbers sized blank_holds
 slice_bounds-picked-end c =
-    let frame-of : Frame = frame_of c.args.cell c.args.cutoff c.args.solutes.now c.args.per c.args.indices.now c.args.waters.now in
-    let limits-hold : first_refusal (limited (frame-of)) ≡ 0 = sym c.limit_refusal-refusal.ensures ∙ c.if-refusal-ne0.false in
-    let picks-counted : c.count-n.result.picks ≡ length (pick_numbers (frame-of)) = c.count-n.ensures.1 in
-    let copies-counted : c.count-n.result.copies ≡ length (kept (frame-of)) = c.count-n.ensures.0 in
-    let tables-of : FrameTables =
-    frame_tables c.args.starts.now c.args.picks.now c.args.clusters.now c.args.center_order.now c.args.water_order.now c.args.records.now
-    c.args.boxes.now c.args.leaves.now in
-    let size-tested : c.size_refusal-size.result ≡ first_refusal (sized (frame-of) (tables-of)) = c.size_refusal-size.ensures ∙ rw (copies-counted, picks-counted, c.count_waters-finite.ensures) in
-    let blank-tested : c.is_blank.result ≡ blank_holds (frame-of) = c.is_blank.ensures ∙ ap₂ (is_blank c.args.cell c.args.solutes.now c.args.waters.now) (copies-counted) c.count_waters-finite.ensures in
-    let not-blank : blank_holds (frame-of) ≡ false = sym (blank-tested) ∙ c.if-is_blank.false in
-    let passed : Passed (frame-of) (tables-of) = record { within = limits-hold; some = not-blank; fits = sym (size-tested) ∙ c.if-size-ne0.false } in
-    let lists-fitted : (length (kept (frame-of)) + 1 ≤ length c.args.starts.now) × (length (pick_numbers (frame-of)) ≤ length c.args.picks.now) = lists-fit (frame-of) (tables-of) (passed) in
-    search (rules, lists-fitted.1, picks-counted)
+    let a = c.args in
+    let f = frame_of a.cell a.cutoff a.solutes.now a.per a.indices.now a.waters.now in
+    let t = frame_tables a.starts.now a.picks.now a.clusters.now a.center_order.now a.water_order.now a.records.now a.boxes.now a.leaves.now in
+    let counted : Counts f c.count-n.result c.count_waters-finite.result = (c.count-n.ensures.0, c.count-n.ensures.1, c.count_waters-finite.ensures) in
+    let p = passed f c.count-n.result _ counted t _ c.in_ok-limit_refusal.ensures c.is_blank.ensures c.if-is_blank.false c.in_ok-size_refusal.ensures in
+    search (rules, (lists-fitted f c.count-n.result _ counted t p).1)
 
 pub slice_bounds-picked-end-2 : goal.slice_bounds-picked-end-2
-unfolding kept pick_numbers
+unfolding kept start_list pick_numbers
 slice_bounds-picked-end-2 c =
-    let frame-of : Frame = frame_of c.args.cell c.args.cutoff c.args.solutes.now c.args.per c.args.indices.now c.args.waters.now in
-    let picks-counted : c.count-n.result.picks ≡ length (pick_numbers (frame-of)) = c.count-n.ensures.1 in
-    let picks-written : c.fill.new.picks ≡ over (pick_numbers (frame-of)) c.args.picks.now = c.fill.ensures.picks_after in
-    let picks-are : take c.count-n.result.picks c.fill.new.picks ≡ pick_numbers (frame-of) = ap (take c.count-n.result.picks) (picks-written) ∙ picks-lent (frame-of) _ _ (picks-counted) in
-    picks-taken frame-of _ _ picks-counted picks-are
+    let a = c.args in
+    let f = frame_of a.cell a.cutoff a.solutes.now a.per a.indices.now a.waters.now in
+    let t = frame_tables a.starts.now a.picks.now a.clusters.now a.center_order.now a.water_order.now a.records.now a.boxes.now a.leaves.now in
+    let counted : Counts f c.count-n.result c.count_waters-finite.result = (c.count-n.ensures.0, c.count-n.ensures.1, c.count_waters-finite.ensures) in
+    let p = passed f c.count-n.result _ counted t _ c.in_ok-limit_refusal.ensures c.is_blank.ensures c.if-is_blank.false c.in_ok-size_refusal.ensures in
+    let l = lists-are f c.count-n.result _ counted _ _ _ _ c.fill.ensures.starts_after c.fill.ensures.picks_after in
+    picks-taken f _ _ counted.1 l.1
 
 pub scan_all-requires : goal.scan_all-requires
-unfolding limited kept pick_numbers sized blank_holds start_list
+unfolding kept start_list pick_numbers
 scan_all-requires c =
-    let frame-of : Frame = frame_of c.args.cell c.args.cutoff c.args.solutes.now c.args.per c.args.indices.now c.args.waters.now in
-    let limits-hold : first_refusal (limited (frame-of)) ≡ 0 = sym c.limit_refusal-refusal.ensures ∙ c.if-refusal-ne0.false in
-    let picks-counted : c.count-n.result.picks ≡ length (pick_numbers (frame-of)) = c.count-n.ensures.1 in
-    let copies-counted : c.count-n.result.copies ≡ length (kept (frame-of)) = c.count-n.ensures.0 in
-    let tables-of : FrameTables =
-    frame_tables c.args.starts.now c.args.picks.now c.args.clusters.now c.args.center_order.now c.args.water_order.now c.args.records.now
-    c.args.boxes.now c.args.leaves.now in
-    let size-tested : c.size_refusal-size.result ≡ first_refusal (sized (frame-of) (tables-of)) = c.size_refusal-size.ensures ∙ rw (copies-counted, picks-counted, c.count_waters-finite.ensures) in
-    let blank-tested : c.is_blank.result ≡ blank_holds (frame-of) = c.is_blank.ensures ∙ ap₂ (is_blank c.args.cell c.args.solutes.now c.args.waters.now) (copies-counted) c.count_waters-finite.ensures in
-    let not-blank : blank_holds (frame-of) ≡ false = sym (blank-tested) ∙ c.if-is_blank.false in
-    let passed : Passed (frame-of) (tables-of) = record { within = limits-hold; some = not-blank; fits = sym (size-tested) ∙ c.if-size-ne0.false } in
-    let picks-written : c.fill.new.picks ≡ over (pick_numbers (frame-of)) c.args.picks.now = c.fill.ensures.picks_after in
-    let picks-are : take c.count-n.result.picks c.fill.new.picks ≡ pick_numbers (frame-of) = ap (take c.count-n.result.picks) (picks-written) ∙ picks-lent (frame-of) _ _ (picks-counted) in
-    let starts-written : c.fill.new.starts ≡ over (start_list (frame-of)) c.args.starts.now = c.fill.ensures.starts_after in
-    let starts-are : take (c.count-n.result.copies + 1) c.fill.new.starts ≡ start_list (frame-of) = ap (take (c.count-n.result.copies + 1)) (starts-written) ∙ starts-lent (frame-of) _ _ (copies-counted) in
-    rw (starts-are, picks-are) (record { picks_value = (fine frame-of tables-of passed, (room frame-of tables-of passed).reaches); starts_in_bounds = (cores-fit frame-of tables-of passed).0.1 })
+    let a = c.args in
+    let f = frame_of a.cell a.cutoff a.solutes.now a.per a.indices.now a.waters.now in
+    let t = frame_tables a.starts.now a.picks.now a.clusters.now a.center_order.now a.water_order.now a.records.now a.boxes.now a.leaves.now in
+    let counted : Counts f c.count-n.result c.count_waters-finite.result = (c.count-n.ensures.0, c.count-n.ensures.1, c.count_waters-finite.ensures) in
+    let p = passed f c.count-n.result _ counted t _ c.in_ok-limit_refusal.ensures c.is_blank.ensures c.if-is_blank.false c.in_ok-size_refusal.ensures in
+    let l = lists-are f c.count-n.result _ counted _ _ _ _ c.fill.ensures.starts_after c.fill.ensures.picks_after in
+    rw (l.0, l.1) (record { picks_value = (fine f t p, (room f t p).reaches); starts_in_bounds = (cores-fit f t p).0.1 })
 
-pub fractions-f-requires : goal.fractions-f-requires
-unfolding kept limited pick_numbers sized blank_holds start_list
-fractions-f-requires c =
-    let frame-of : Frame = frame_of c.args.cell c.args.cutoff c.args.solutes.now c.args.per c.args.indices.now c.args.waters.now in
-    let copies-counted : c.count-n.result.copies ≡ length (kept (frame-of)) = c.count-n.ensures.0 in
-    let limits-hold : first_refusal (limited (frame-of)) ≡ 0 = sym c.limit_refusal-refusal.ensures ∙ c.if-refusal-ne0.false in
-    let picks-counted : c.count-n.result.picks ≡ length (pick_numbers (frame-of)) = c.count-n.ensures.1 in
-    let tables-of : FrameTables =
-    frame_tables c.args.starts.now c.args.picks.now c.args.clusters.now c.args.center_order.now c.args.water_order.now c.args.records.now
-    c.args.boxes.now c.args.leaves.now in
-    let size-tested : c.size_refusal-size.result ≡ first_refusal (sized (frame-of) (tables-of)) = c.size_refusal-size.ensures ∙ rw (copies-counted, picks-counted, c.count_waters-finite.ensures) in
-    let blank-tested : c.is_blank.result ≡ blank_holds (frame-of) = c.is_blank.ensures ∙ ap₂ (is_blank c.args.cell c.args.solutes.now c.args.waters.now) (copies-counted) c.count_waters-finite.ensures in
-    let not-blank : blank_holds (frame-of) ≡ false = sym (blank-tested) ∙ c.if-is_blank.false in
-    let passed : Passed (frame-of) (tables-of) = record { within = limits-hold; some = not-blank; fits = sym (size-tested) ∙ c.if-size-ne0.false } in
-    let picks-written : c.fill.new.picks ≡ over (pick_numbers (frame-of)) c.args.picks.now = c.fill.ensures.picks_after in
-    let picks-are : take c.count-n.result.picks c.fill.new.picks ≡ pick_numbers (frame-of) = ap (take c.count-n.result.picks) (picks-written) ∙ picks-lent (frame-of) _ _ (picks-counted) in
-    let starts-written : c.fill.new.starts ≡ over (start_list (frame-of)) c.args.starts.now = c.fill.ensures.starts_after in
-    let starts-are : take (c.count-n.result.copies + 1) c.fill.new.starts ≡ start_list (frame-of) = ap (take (c.count-n.result.copies + 1)) (starts-written) ∙ starts-lent (frame-of) _ _ (copies-counted) in
-    let scanned-is : c.scan_all.new.table ≡ scanned (scan_input (frame-of)) c.args.cutoff c.args.clusters.now = c.scan_all.ensures ∙ (λ i. scanned (given c.args.cell c.args.solutes.now [] (starts-are i) (picks-are i)) c.args.cutoff c.args.clusters.now) in
-    let r = table-sound frame-of tables-of passed _ _ copies-counted scanned-is in record { n_le_max_copies = r.0; table_value = r.1 }
+pub fractions-fractions-requires : goal.fractions-fractions-requires
+unfolding kept start_list pick_numbers
+fractions-fractions-requires c =
+    let a = c.args in
+    let f = frame_of a.cell a.cutoff a.solutes.now a.per a.indices.now a.waters.now in
+    let t = frame_tables a.starts.now a.picks.now a.clusters.now a.center_order.now a.water_order.now a.records.now a.boxes.now a.leaves.now in
+    let counted : Counts f c.count-n.result c.count_waters-finite.result = (c.count-n.ensures.0, c.count-n.ensures.1, c.count_waters-finite.ensures) in
+    let p = passed f c.count-n.result _ counted t _ c.in_ok-limit_refusal.ensures c.is_blank.ensures c.if-is_blank.false c.in_ok-size_refusal.ensures in
+    let l = lists-are f c.count-n.result _ counted _ _ _ _ c.fill.ensures.starts_after c.fill.ensures.picks_after in
+    let scanned-is = c.scan_all.ensures ∙ (λ i. scanned (given a.cell a.solutes.now [] (l.0 i) (l.1 i)) a.cutoff a.clusters.now) in
+    let r = table-sound f t p _ _ counted.0 scanned-is in record { n_le_max_copies = r.0; table_value = r.1 }
 
 pub dispersion_of-dispersion-requires : goal.dispersion_of-dispersion-requires
-unfolding limited kept pick_numbers sized blank_holds start_list
+unfolding kept start_list pick_numbers
 dispersion_of-dispersion-requires c =
-    let frame-of : Frame = frame_of c.args.cell c.args.cutoff c.args.solutes.now c.args.per c.args.indices.now c.args.waters.now in
-    let limits-hold : first_refusal (limited (frame-of)) ≡ 0 = sym c.limit_refusal-refusal.ensures ∙ c.if-refusal-ne0.false in
-    let picks-counted : c.count-n.result.picks ≡ length (pick_numbers (frame-of)) = c.count-n.ensures.1 in
-    let copies-counted : c.count-n.result.copies ≡ length (kept (frame-of)) = c.count-n.ensures.0 in
-    let tables-of : FrameTables =
-    frame_tables c.args.starts.now c.args.picks.now c.args.clusters.now c.args.center_order.now c.args.water_order.now c.args.records.now
-    c.args.boxes.now c.args.leaves.now in
-    let size-tested : c.size_refusal-size.result ≡ first_refusal (sized (frame-of) (tables-of)) = c.size_refusal-size.ensures ∙ rw (copies-counted, picks-counted, c.count_waters-finite.ensures) in
-    let blank-tested : c.is_blank.result ≡ blank_holds (frame-of) = c.is_blank.ensures ∙ ap₂ (is_blank c.args.cell c.args.solutes.now c.args.waters.now) (copies-counted) c.count_waters-finite.ensures in
-    let not-blank : blank_holds (frame-of) ≡ false = sym (blank-tested) ∙ c.if-is_blank.false in
-    let passed : Passed (frame-of) (tables-of) = record { within = limits-hold; some = not-blank; fits = sym (size-tested) ∙ c.if-size-ne0.false } in
-    let picks-written : c.fill.new.picks ≡ over (pick_numbers (frame-of)) c.args.picks.now = c.fill.ensures.picks_after in
-    let picks-are : take c.count-n.result.picks c.fill.new.picks ≡ pick_numbers (frame-of) = ap (take c.count-n.result.picks) (picks-written) ∙ picks-lent (frame-of) _ _ (picks-counted) in
-    let starts-written : c.fill.new.starts ≡ over (start_list (frame-of)) c.args.starts.now = c.fill.ensures.starts_after in
-    let starts-are : take (c.count-n.result.copies + 1) c.fill.new.starts ≡ start_list (frame-of) = ap (take (c.count-n.result.copies + 1)) (starts-written) ∙ starts-lent (frame-of) _ _ (copies-counted) in
-    rw (starts-are, picks-are) (lists-sound frame-of tables-of passed)
+    let a = c.args in
+    let f = frame_of a.cell a.cutoff a.solutes.now a.per a.indices.now a.waters.now in
+    let t = frame_tables a.starts.now a.picks.now a.clusters.now a.center_order.now a.water_order.now a.records.now a.boxes.now a.leaves.now in
+    let counted : Counts f c.count-n.result c.count_waters-finite.result = (c.count-n.ensures.0, c.count-n.ensures.1, c.count_waters-finite.ensures) in
+    let p = passed f c.count-n.result _ counted t _ c.in_ok-limit_refusal.ensures c.is_blank.ensures c.if-is_blank.false c.in_ok-size_refusal.ensures in
+    let l = lists-are f c.count-n.result _ counted _ _ _ _ c.fill.ensures.starts_after c.fill.ensures.picks_after in
+    rw (l.0, l.1) (lists-sound f t p)
 
-pub report_of-reported-requires : goal.report_of-reported-requires
-unfolding limited kept pick_numbers sized blank_holds start_list
-report_of-reported-requires c =
-    let frame-of : Frame = frame_of c.args.cell c.args.cutoff c.args.solutes.now c.args.per c.args.indices.now c.args.waters.now in
-    let limits-hold : first_refusal (limited (frame-of)) ≡ 0 = sym c.limit_refusal-refusal.ensures ∙ c.if-refusal-ne0.false in
-    let picks-counted : c.count-n.result.picks ≡ length (pick_numbers (frame-of)) = c.count-n.ensures.1 in
-    let copies-counted : c.count-n.result.copies ≡ length (kept (frame-of)) = c.count-n.ensures.0 in
-    let tables-of : FrameTables =
-    frame_tables c.args.starts.now c.args.picks.now c.args.clusters.now c.args.center_order.now c.args.water_order.now c.args.records.now
-    c.args.boxes.now c.args.leaves.now in
-    let size-tested : c.size_refusal-size.result ≡ first_refusal (sized (frame-of) (tables-of)) = c.size_refusal-size.ensures ∙ rw (copies-counted, picks-counted, c.count_waters-finite.ensures) in
-    let blank-tested : c.is_blank.result ≡ blank_holds (frame-of) = c.is_blank.ensures ∙ ap₂ (is_blank c.args.cell c.args.solutes.now c.args.waters.now) (copies-counted) c.count_waters-finite.ensures in
-    let not-blank : blank_holds (frame-of) ≡ false = sym (blank-tested) ∙ c.if-is_blank.false in
-    let passed : Passed (frame-of) (tables-of) = record { within = limits-hold; some = not-blank; fits = sym (size-tested) ∙ c.if-size-ne0.false } in
-    let picks-written : c.fill.new.picks ≡ over (pick_numbers (frame-of)) c.args.picks.now = c.fill.ensures.picks_after in
-    let picks-are : take c.count-n.result.picks c.fill.new.picks ≡ pick_numbers (frame-of) = ap (take c.count-n.result.picks) (picks-written) ∙ picks-lent (frame-of) _ _ (picks-counted) in
-    let starts-written : c.fill.new.starts ≡ over (start_list (frame-of)) c.args.starts.now = c.fill.ensures.starts_after in
-    let starts-are : take (c.count-n.result.copies + 1) c.fill.new.starts ≡ start_list (frame-of) = ap (take (c.count-n.result.copies + 1)) (starts-written) ∙ starts-lent (frame-of) _ _ (copies-counted) in
-    let fit = cores-fit frame-of tables-of passed in
-    rw (starts-are, picks-are) (record { picks_value = lists-sound frame-of tables-of passed; waters_len_bound = fit.0.0; starts_in_bounds = fit.1 })
+pub report_of-requires : goal.report_of-requires
+unfolding kept start_list pick_numbers
+report_of-requires c =
+    let a = c.args in
+    let f = frame_of a.cell a.cutoff a.solutes.now a.per a.indices.now a.waters.now in
+    let t = frame_tables a.starts.now a.picks.now a.clusters.now a.center_order.now a.water_order.now a.records.now a.boxes.now a.leaves.now in
+    let counted : Counts f c.count-n.result c.count_waters-finite.result = (c.count-n.ensures.0, c.count-n.ensures.1, c.count_waters-finite.ensures) in
+    let p = passed f c.count-n.result _ counted t _ c.in_ok-limit_refusal.ensures c.is_blank.ensures c.if-is_blank.false c.in_ok-size_refusal.ensures in
+    let l = lists-are f c.count-n.result _ counted _ _ _ _ c.fill.ensures.starts_after c.fill.ensures.picks_after in
+    let fit = cores-fit f t p in
+    rw (l.0, l.1) (record { picks_value = lists-sound f t p; waters_len_bound = fit.0.0; starts_in_bounds = fit.1 })
+
+pub returns-in_err-report : goal.returns-in_err-report
+unfolding kept start_list pick_numbers
+returns-in_err-report c =
+    let a = c.args in
+    let f = frame_of a.cell a.cutoff a.solutes.now a.per a.indices.now a.waters.now in
+    let t = frame_tables a.starts.now a.picks.now a.clusters.now a.center_order.now a.water_order.now a.records.now a.boxes.now a.leaves.now in
+    let counted : Counts f c.count-n.result c.count_waters-finite.result = (c.count-n.ensures.0, c.count-n.ensures.1, c.count_waters-finite.ensures) in
+    let p = passed f c.count-n.result _ counted t _ c.in_ok-limit_refusal.ensures c.is_blank.ensures c.if-is_blank.false c.in_ok-size_refusal.ensures in
+    let l = lists-are f c.count-n.result _ counted _ _ _ _ c.fill.ensures.starts_after c.fill.ensures.picks_after in
+    let input : List ℕ → List ℕ → Input = given a.cell a.solutes.now a.waters.now in
+    let q = err_from_is_err_and c.from_residual-in_err-report.result c.from_residual-in_err-report.ensures.1 in
+    let reports = c.in_err-report.ensures.answer ∙ (λ i. core_answer (input (l.0 i) (l.1 i)) t.tree a.leaves.now) in record {
+      answer = rw (q.1, q.2) (told-refused f t p _ reports);
+      after = (λ i. record { starts = c.fill.ensures.starts_after i; picks = c.fill.ensures.picks_after i; clusters = c.scan_all.ensures i; tree = c.in_err-report.ensures.after i; leaves = c.in_err-report.ensures.reported i })
+          ∙ left f t p _ _ l.0 l.1 _ (report-told _ _ _ reports);
+    }
 
 pub returns : goal.returns
-unfolding kept pick_numbers start_list limited sized blank_holds
+unfolding kept start_list pick_numbers
 returns c =
-    let frame-of : Frame = frame_of c.args.cell c.args.cutoff c.args.solutes.now c.args.per c.args.indices.now c.args.waters.now in
-    let copies-counted : c.count-n.result.copies ≡ length (kept (frame-of)) = c.count-n.ensures.0 in
-    let picks-counted : c.count-n.result.picks ≡ length (pick_numbers (frame-of)) = c.count-n.ensures.1 in
-    let picks-written : c.fill.new.picks ≡ over (pick_numbers (frame-of)) c.args.picks.now = c.fill.ensures.picks_after in
-    let picks-are : take c.count-n.result.picks c.fill.new.picks ≡ pick_numbers (frame-of) = ap (take c.count-n.result.picks) (picks-written) ∙ picks-lent (frame-of) _ _ (picks-counted) in
-    let starts-written : c.fill.new.starts ≡ over (start_list (frame-of)) c.args.starts.now = c.fill.ensures.starts_after in
-    let starts-are : take (c.count-n.result.copies + 1) c.fill.new.starts ≡ start_list (frame-of) = ap (take (c.count-n.result.copies + 1)) (starts-written) ∙ starts-lent (frame-of) _ _ (copies-counted) in
-    let dispersed : c.dispersion_of-dispersion.result ≡ dispersion_of (scan_input (frame-of)) = c.dispersion_of-dispersion.ensures ∙ (λ i. dispersion_of (given c.args.cell c.args.solutes.now [] (starts-are i) (picks-are i))) in
-    let limits-hold : first_refusal (limited (frame-of)) ≡ 0 = sym c.limit_refusal-refusal.ensures ∙ c.if-refusal-ne0.false in
-    let tables-of : FrameTables =
-    frame_tables c.args.starts.now c.args.picks.now c.args.clusters.now c.args.center_order.now c.args.water_order.now c.args.records.now
-    c.args.boxes.now c.args.leaves.now in
-    let size-tested : c.size_refusal-size.result ≡ first_refusal (sized (frame-of) (tables-of)) = c.size_refusal-size.ensures ∙ rw (copies-counted, picks-counted, c.count_waters-finite.ensures) in
-    let blank-tested : c.is_blank.result ≡ blank_holds (frame-of) = c.is_blank.ensures ∙ ap₂ (is_blank c.args.cell c.args.solutes.now c.args.waters.now) (copies-counted) c.count_waters-finite.ensures in
-    let not-blank : blank_holds (frame-of) ≡ false = sym (blank-tested) ∙ c.if-is_blank.false in
-    let passed : Passed (frame-of) (tables-of) = record { within = limits-hold; some = not-blank; fits = sym (size-tested) ∙ c.if-size-ne0.false } in
-    let reports : c.report_of-reported.result ≡ core_answer (tree_input (frame-of)) (tables-of).tree c.args.leaves.now =
-    let input : List ℕ → List ℕ → Input = given c.args.cell c.args.solutes.now c.args.waters.now in
-    c.report_of-reported.ensures.answer ∙ (λ i. core_answer (input (starts-are i) (picks-are i)) (tables-of).tree c.args.leaves.now) in
-    let scanned-is : c.scan_all.new.table ≡ scanned (scan_input (frame-of)) c.args.cutoff c.args.clusters.now = c.scan_all.ensures ∙ (λ i. scanned (given c.args.cell c.args.solutes.now [] (starts-are i) (picks-are i)) c.args.cutoff c.args.clusters.now) in
-    let closed = c.fractions-f.ensures ∙ ap table_fractions scanned-is in
-    let number = report-told _ _ _ reports in record {
-      answer = c.with_report.ensures
-          ∙ (λ i. with_report (copies-counted i) (picks-counted i) (closed i) (dispersed i) (reports i))
-          ∙ cores-answer frame-of tables-of (room_number frame-of tables-of)
-          ∙ answer-worked frame-of tables-of passed;
-      after = (λ i. record { starts = starts-written i; picks = picks-written i; clusters = c.scan_all.ensures i; tree = c.report_of-reported.ensures.after i; leaves = c.report_of-reported.ensures.reported i })
-          ∙ (λ i. cores_leave frame-of tables-of (starts-are i) (picks-are i) (number i))
-          ∙ worked-tables frame-of tables-of passed;
+    let a = c.args in
+    let f = frame_of a.cell a.cutoff a.solutes.now a.per a.indices.now a.waters.now in
+    let t = frame_tables a.starts.now a.picks.now a.clusters.now a.center_order.now a.water_order.now a.records.now a.boxes.now a.leaves.now in
+    let counted : Counts f c.count-n.result c.count_waters-finite.result = (c.count-n.ensures.0, c.count-n.ensures.1, c.count_waters-finite.ensures) in
+    let p = passed f c.count-n.result _ counted t _ c.in_ok-limit_refusal.ensures c.is_blank.ensures c.if-is_blank.false c.in_ok-size_refusal.ensures in
+    let l = lists-are f c.count-n.result _ counted _ _ _ _ c.fill.ensures.starts_after c.fill.ensures.picks_after in
+    let input : List ℕ → List ℕ → Input = given a.cell a.solutes.now a.waters.now in
+    let scanned-is = c.scan_all.ensures ∙ (λ i. scanned (given a.cell a.solutes.now [] (l.0 i) (l.1 i)) a.cutoff a.clusters.now) in
+    let dispersed = c.dispersion_of-dispersion.ensures ∙ (λ i. dispersion_of (given a.cell a.solutes.now [] (l.0 i) (l.1 i))) in
+    let reports = c.in_ok-report.ensures.answer ∙ (λ i. core_answer (input (l.0 i) (l.1 i)) t.tree a.leaves.now) in record {
+      answer = told f t p _ _ counted _ dispersed _ (c.fractions-fractions.ensures ∙ ap table_fractions scanned-is) _ reports;
+      after = (λ i. record { starts = c.fill.ensures.starts_after i; picks = c.fill.ensures.picks_after i; clusters = c.scan_all.ensures i; tree = c.in_ok-report.ensures.after i; leaves = c.in_ok-report.ensures.reported i })
+          ∙ left f t p _ _ l.0 l.1 _ (report-told _ _ _ reports);
     }

@@ -1,8 +1,11 @@
 -- `baithrum_report` meets its contract: the number, the values and every table are Report's, in the cell of the six numbers, and the
 -- counts fit a word. Assumes nothing.
 use mathlib.Core.Path.{ap, ◌∙◌}
-use Rattle.report.specs.declared.Reported.{Reported}
-use Rattle.report.specs.Report.{report_number, report_values}
+use Rattle.std.proofs.Common.{Result}
+use Rattle.base.specs.declared.Refused.{Refused}
+use Rattle.base.specs.Refusals.{answer_number}
+use Rattle.report.specs.declared.ReportCounts.{ReportCounts}
+use Rattle.report.specs.Report.{report_values}
 use Rattle.answers.specs.Interface.{answers_after}
 use Rattle.mixing_c.proofs.Small.{report-small}
 use Rattle.mixing_c.proofs.Numbers.{report-number}
@@ -15,4 +18,4 @@ pub returns : goal.returns
 returns c =
     let got = rw c.cell.ensures at c.report.ensures in
     let told = c.report-2.ensures in
-    record { number = told.number ∙ ap report_number got.answer ∙ report-number _ _ _; after = got.after; reported = got.reported; answers_after = told.answers_after ∙ ap (λ (a : Reported). answers_after (report_values a) c.args.answers.now) got.answer }
+    record { number = told.number ∙ ap answer_number got.answer ∙ report-number _ _ _; after = got.after; reported = got.reported; answers_after = told.answers_after ∙ ap (λ (a : Result ReportCounts Refused). answers_after (report_values a) c.args.answers.now) got.answer }

@@ -1,15 +1,14 @@
 -- `arrange` meets its contract: the list is saved, its octants noted and counted, and each point dealt to its octant's place.
 -- Assumes nothing.
-use native.Mathlib.Omega.{arith}
-use mathlib.Core.Path.{refl}
+use Rattle.std.proofs.Common.{arith}
 use Rattle.octants.proofs.Sorting.{counts-sum, dealable, arranged}
 use Rattle.octants.proofs.arrange.Goals as goal
 
-pub firsts-requires : goal.firsts-requires
-firsts-requires c = (omega (arith, counts-sum c.tally.ensures, c.requires.few), refl)
+pub firsts-places-requires : goal.firsts-places-requires
+firsts-places-requires c = omega (arith, counts-sum c.tally.ensures, c.requires.few)
 
 pub deal-requires : goal.deal-requires
-deal-requires c = dealable c.tally.ensures _ c.paste.ensures _ c.firsts.ensures.eight (omega (arith, c.requires.room-k)) (omega (arith, c.requires.room-s)) c.firsts.ensures.sums
+deal-requires c = dealable c.tally.ensures c.copy_from_slice.ensures.after (omega arith) (omega (arith, c.requires.room-k)) c.firsts-places.ensures
 
 pub returns : goal.returns
-returns c = arranged c.tally.ensures _ c.paste.ensures _ c.deal.ensures
+returns c = arranged c.tally.ensures c.copy_from_slice.ensures.after c.deal.ensures

@@ -1,13 +1,7 @@
--- `deal` meets its contract. With `left` of n points still to go, each octant has its points of the others at the front of its stretch
--- (`Dealing`). The measure is `left`. Assumes nothing.
-use mathlib.Core.Path.{◌≡◌}
-use Prim.Native.Nat.{◌-◌, ◌≤◌}
-use lib.ListN.{length}
+-- `deal` meets its contract. After i turns each octant has its points of those at the front of its stretch (`Dealing`). Assumes nothing.
+use Rattle.std.proofs.Common.{length}
 use Rattle.octants.proofs.Sorting.{Dealing}
 use Rattle.octants.proofs.deal.Given as goal
 
-abbrev pub invariant-loop-left : goal.invariant-loop-left
-invariant-loop-left l = Dealing l.codes l.saved l.n (l.n - l.left) l.places l.order × (length l.places ≡ 8) × (l.left ≤ l.n)
-
-abbrev pub decreases-loop-left : goal.decreases-loop-left
-decreases-loop-left l = l.left
+abbrev pub invariant-loop-i : goal.invariant-loop-i
+invariant-loop-i l = Dealing l.codes l.saved (length l.initial.order) l.i l.places l.order

@@ -1,7 +1,5 @@
 -- What is left to prove of `put_waters`. Assumes nothing.
 use mathlib.Core.Path.{sym, ap, ◌∙◌}
-use native.Mathlib.Omega.{arith}
-use lib.ListN.{length-set}
 use Rattle.cell.specs.Cell.{finite_point}
 use Rattle.points.proofs.WaterList.{writing-first, writing-finite, writing-other, writing-last}
 use Rattle.points.proofs.put_waters.Goals as goal
@@ -9,12 +7,6 @@ use Rattle.points.proofs.put_waters.Goals.{then-is_finite, else-is_finite}
 
 pub loop-k-init : goal.loop-k-init
 loop-k-init c = writing-first c.requires
-
-pub bounds-out-at-then-is_finite : goal.bounds-out-at-then-is_finite
-bounds-out-at-then-is_finite c = simp length-set (omega (arith, c.requires, c.loop-k.invariant.filling.same, c.loop-k.invariant.counting.few))
-
-pub bounds-out-at-then-is_finite-2 : goal.bounds-out-at-then-is_finite-2
-bounds-out-at-then-is_finite-2 c = simp length-set (omega (arith, c.requires, c.loop-k.invariant.filling.same, c.loop-k.invariant.counting.few))
 
 pub loop-k-preserved : goal.loop-k-preserved
 loop-k-preserved c =

@@ -1,17 +1,9 @@
 -- What is left to prove of `wrap_all`. Assumes nothing.
-use native.Mathlib.Omega.{arith}
-use lib.ListN.{length-set}
 use Rattle.points.proofs.Wrapping.{wrapping-first, wrapping-next, wrapping-last}
 use Rattle.points.proofs.wrap_all.Goals as goal
 
 pub loop-i-init : goal.loop-i-init
 loop-i-init c = wrapping-first c.requires
-
-pub bounds-xs-at-in-loop-i : goal.bounds-xs-at-in-loop-i
-bounds-xs-at-in-loop-i c = simp length-set (omega (arith, c.loop-i.invariant.filling.same))
-
-pub bounds-xs-at-in-loop-i-2 : goal.bounds-xs-at-in-loop-i-2
-bounds-xs-at-in-loop-i-2 c = simp length-set (omega (arith, c.loop-i.invariant.filling.same))
 
 pub loop-i-preserved : goal.loop-i-preserved
 loop-i-preserved c = rw (c.wrap-p.ensures, c.point.ensures) (wrapping-next c.loop-i-test.true c.loop-i.invariant)

@@ -1,9 +1,6 @@
--- No count passes that of the blocks, and the rest of the file is within it.
-use Rattle.std.proofs.Common.{◌-◌, ◌≤◌, length}
+-- No more blocks agreed than there were so far.
+use Rattle.std.proofs.Common.{◌≤◌}
 use Rattle.replay.proofs.replay.Given as goal
 
 abbrev pub invariant-loop-done : goal.invariant-loop-done
-invariant-loop-done g l = (l.at ≤ length l.file) × (l.agreed ≤ l.done) × (l.led ≤ l.done) × (l.done ≤ l.count)
-
-abbrev pub decreases-loop-done : goal.decreases-loop-done
-decreases-loop-done g l = l.count - l.done
+invariant-loop-done g l = l.agreed ≤ l.done

@@ -9,7 +9,6 @@ use Rattle.span_table.proofs.Apart.{marked-apart}
 use Rattle.cluster_table.proofs.Checks.{ready_of}
 use Rattle.clusters.proofs.Accepted.{accepted-sound, accepted-lists, accepted-tested}
 use Rattle.clusters.proofs.Passes.{run-first, run-skip, run-touch, run-last, run-asks}
-use borrow.Author.Rules.{rules}
 use Rattle.scan.proofs.scan_boxed.Goals.{then-marked_touch, else-marked_touch}
 use Rattle.scan.proofs.scan_boxed.Goals as goal
 
@@ -18,9 +17,6 @@ overflow_sub-n c = omega (arith, (accepted-lists _ c.requires.picks_value.0).num
 
 pub mark_apart-requires : goal.mark_apart-requires
 mark_apart-requires c = ((accepted-lists _ c.requires.picks_value.0).few, c.requires.starts_in_bounds.2, c.requires.sure_marks.1, c.requires.sure_marks.2)
-
-pub overflow_add-k : goal.overflow_add-k
-overflow_add-k c = omega (arith, (accepted-lists _ c.requires.picks_value.0).few, c.requires.starts_in_bounds.2)
 
 pub loop-k-init : goal.loop-k-init
 loop-k-init c =
@@ -38,9 +34,6 @@ marked_touch-requires c =
 pub add_contact-requires : goal.add_contact-requires
 add_contact-requires c = let r = run-asks c.loop-k.invariant (accepted-lists _ c.requires.picks_value.0).few c.loop-k-test.true in record { n_le_max_copies = r.0; table_value = r.1.0; i_bound = r.1.1 }
 
-pub overflow_add-k-in-loop-k : goal.overflow_add-k-in-loop-k
-overflow_add-k-in-loop-k c = omega (arith, (accepted-lists _ c.requires.picks_value.0).few)
-
 pub loop-k-preserved : goal.loop-k-preserved
 loop-k-preserved c =
     elim c.if-marked_touch.branch [
@@ -50,9 +43,6 @@ loop-k-preserved c =
 
 pub set_mark-requires : goal.set_mark-requires
 set_mark-requires c = ((accepted-lists _ c.requires.picks_value.0).few, c.loop-k.invariant.long, c.requires.starts_in_bounds.2)
-
-pub shape_of-table : goal.shape_of-table
-shape_of-table c = search (rules, c.loop-k.invariant.same)
 
 pub returns : goal.returns
 returns c = c.set_mark.ensures ∙ run-last c.loop-k.invariant c.loop-k-test.false

@@ -1,24 +1,17 @@
 -- What is left to prove of `count_finite`. Assumes nothing.
 use mathlib.Core.Path.{ap, sym, ◌∙◌}
-use Prim.Native.Nat.{◌<◌}
 use native.Mathlib.Omega.{arith}
 use lib.ListN.{length}
-use Rattle.selection.proofs.Picked.{finite-hit, finite-skip, finite-none, finite-all}
+use Rattle.selection.proofs.Picked.{finite-hit, finite-skip, finite-none}
 use Rattle.selection.proofs.count_finite.Goals as goal
 use Rattle.selection.proofs.count_finite.Goals.{then-finite_atom, else-finite_atom}
-
-pub loop-k-init : goal.loop-k-init
-loop-k-init c =
-    let a = c.args in
-    omega (arith, ap length (finite-all a.xs.now a.per a.base))
 
 pub loop-k-preserved : goal.loop-k-preserved
 loop-k-preserved c =
     let a = c.args in
-    let below : c.loop-k.k < a.per = omega arith in
     elim c.if-finite_atom.branch [
-      | then-finite_atom w ↦ omega (arith, ap length (finite-hit a.xs.now a.per a.base c.loop-k.k below (sym c.finite_atom.ensures ∙ w.if-finite_atom.true)))
-      | else-finite_atom w ↦ omega (arith, ap length (finite-skip a.xs.now a.per a.base c.loop-k.k below (sym c.finite_atom.ensures ∙ w.if-finite_atom.false)))
+      | then-finite_atom w ↦ omega (arith, ap length (finite-hit a.xs.now a.per a.base c.loop-k.k (omega arith) (sym c.finite_atom.ensures ∙ w.if-finite_atom.true)))
+      | else-finite_atom w ↦ omega (arith, ap length (finite-skip a.xs.now a.per a.base c.loop-k.k (omega arith) (sym c.finite_atom.ensures ∙ w.if-finite_atom.false)))
     ]
 
 pub returns : goal.returns

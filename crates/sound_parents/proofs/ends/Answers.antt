@@ -1,31 +1,22 @@
 -- What is left to prove of `ends`. Assumes nothing.
-use mathlib.Core.Path.{refl}
 use native.Mathlib.Omega.{arith}
-use lib.ListN.{length-set}
 use Rattle.union_find.proofs.Forest.{closed_of}
 use Rattle.sound_parents.proofs.Climbs.{climb-first, climb-next, climb-less, climb-root, climb-end}
 use Rattle.sound_parents.proofs.ends.Goals as goal
 
 pub loop-seen-init : goal.loop-seen-init
-loop-seen-init c = (refl, climb-first c.requires.i_in_bounds.0 c.requires.stamped)
-
-pub shape_of-seen-then-parent-k : goal.shape_of-seen-then-parent-k
-shape_of-seen-then-parent-k c = simp length-set c.loop-seen.invariant.0
+loop-seen-init c = climb-first c.requires.i_in_bounds.0 c.requires.stamped
 
 pub returns-then-parent-k : goal.returns-then-parent-k
-returns-then-parent-k c = let r = climb-root (closed_of _ c.requires.parent_value) c.requires.i_in_bounds.0 (omega (arith, c.loop-seen.invariant.0)) c.loop-seen.invariant.1 c.if-parent-k.true in record { value = r.0; stamped_2 = r.1 }
+returns-then-parent-k c =
+    let r = climb-root (closed_of _ c.requires.parent_value) c.requires.i_in_bounds.0 (omega arith) c.loop-seen.invariant c.if-parent-k.true in
+    record { value = r.0; stamped_2 = r.1 }
 
 pub loop-seen-smaller : goal.loop-seen-smaller
-loop-seen-smaller c = climb-less (omega (arith, c.loop-seen.invariant.0, c.requires.i_in_bounds.1)) c.loop-seen.invariant.1 c.loop-seen-test.true
+loop-seen-smaller c = climb-less (omega arith) c.loop-seen.invariant c.loop-seen-test.true
 
 pub loop-seen-preserved : goal.loop-seen-preserved
-loop-seen-preserved c = (
-  simp length-set c.loop-seen.invariant.0,
-  climb-next (omega (arith, c.loop-seen.invariant.0)) c.loop-seen.invariant.1 (closed_of _ c.requires.parent_value) c.if-parent-k.false,
-)
-
-pub shape_of-seen : goal.shape_of-seen
-shape_of-seen c = c.loop-seen.invariant.0
+loop-seen-preserved c = climb-next (omega arith) c.loop-seen.invariant (closed_of _ c.requires.parent_value) c.if-parent-k.false
 
 pub returns : goal.returns
-returns c = let r = climb-end (closed_of _ c.requires.parent_value) c.requires.i_in_bounds.0 c.loop-seen.invariant.1 c.loop-seen-test.false in record { value = r.0; stamped_2 = r.1 }
+returns c = let r = climb-end (closed_of _ c.requires.parent_value) c.requires.i_in_bounds.0 c.loop-seen.invariant c.loop-seen-test.false in record { value = r.0; stamped_2 = r.1 }

@@ -1,18 +1,14 @@
 -- What is left to prove of `fill_axis`. Assumes nothing.
 use mathlib.Core.Path.{◌∙◌, ap}
 use native.Mathlib.Omega.{arith}
-use lib.ListN.{length-set}
 use Rattle.pick_lists.proofs.SoundLists.{sound-lists}
 use Rattle.pick_lists.proofs.CopyPicks.{copy-part, copy_some, copy-atoms}
 use Rattle.spans.specs.Inner.{least_of, greatest_of}
-use Rattle.span_table.proofs.Filling.{filled_none, filled_next}
+use Rattle.span_table.proofs.Filling.{filled_next}
 use Rattle.span_table.proofs.fill_axis.Goals as goal
 
 pub overflow_sub-n : goal.overflow_sub-n
 overflow_sub-n c = omega (arith, (sound-lists _ _ _ c.requires.picks_value).number)
-
-pub loop-i-init : goal.loop-i-init
-loop-i-init c = filled_none _ _ _ _ _
 
 pub copy_picks-requires : goal.copy_picks-requires
 copy_picks-requires c = copy-part _ _ _ (sound-lists _ _ _ c.requires.picks_value) _ c.loop-i-test.true
@@ -23,23 +19,9 @@ ends_of-e-requires c =
     let l = c.loop-i-test.true in
     record { a_nonzero = (rw c.copy_picks.ensures (copy_some _ _ _ ls _ l), c.requires.axis_bound.0); by_index = rw c.copy_picks.ensures (copy-atoms _ _ _ ls _ l) }
 
-pub bounds-table-at : goal.bounds-table-at
-bounds-table-at c = omega (arith, c.loop-i.invariant.same)
-
-pub bounds-table-at-in-loop-i : goal.bounds-table-at-in-loop-i
-bounds-table-at-in-loop-i c = simp length-set (omega (arith, c.loop-i.invariant.same))
-
 pub loop-i-preserved : goal.loop-i-preserved
 loop-i-preserved c =
     filled_next _ _ _ _ _ _ _ _ _ c.requires.axis_bound.1 c.loop-i-test.true
     (c.ends_of-e.ensures.0 ∙ ap (least_of c.args.xs.now c.args.axis) c.copy_picks.ensures)
     (c.ends_of-e.ensures.1 ∙ ap (greatest_of c.args.xs.now c.args.axis) c.copy_picks.ensures)
     c.loop-i.invariant
-
-pub shape_of-table : goal.shape_of-table
-shape_of-table c = c.loop-i.invariant.same
-
-pub returns : goal.returns
-returns c =
-    let f = c.loop-i.invariant in
-    record { least = λ m l. f.least m (omega (arith, f.most)); greatest = λ m l. f.greatest m (omega (arith, f.most)); before = f.before; past = f.past }

@@ -2,7 +2,7 @@
 use mathlib.Core.Path.{sym, ap, ◌∙◌}
 use Rattle.pick_lists.specs.Sound.{finite_atom}
 use Rattle.pick_lists.proofs.SoundLists.{sound-lists}
-use Rattle.pick_lists.proofs.CopyPicks.{copy-part, copy_some, copy-few, copy-atoms, copy-finite}
+use Rattle.pick_lists.proofs.CopyPicks.{copy-part, copy_some, copy-atoms, copy-finite}
 use Rattle.touch.specs.Touch.{copies_touch}
 use Rattle.spans.specs.Inner.{span_of}
 use Rattle.spans.proofs.copies_touch.Goals as goal
@@ -20,7 +20,7 @@ boxed_touch-requires c =
     let j = c.requires.i_bound.1 in
     let l = sound-lists _ _ _ c.requires.picks_value in
     let a = c.copy_picks-a.ensures in
-    let b = c.copy_picks-b.ensures in record { xs_value = (c.requires.xs_value, c.requires.s_value.0 ∙ ap (span_of c.args.xs.now) (sym a), c.requires.s_value.1 ∙ rw b); a_len_bound = (rw a (copy-few _ _ _ l _ i), rw b (copy_some _ _ _ l _ j), rw b (copy-few _ _ _ l _ j)); finite_picks = (rw a (λ k h. (copy-atoms _ _ _ l _ i k h, copy-finite _ _ _ l _ i k h)), rw b (λ k h. (copy-atoms _ _ _ l _ j k h, copy-finite _ _ _ l _ j k h))) }
+    let b = c.copy_picks-b.ensures in record { xs_value = (c.requires.xs_value, c.requires.s_value.0 ∙ ap (span_of c.args.xs.now) (sym a), c.requires.s_value.1 ∙ rw b); b_nonzero = rw b (copy_some _ _ _ l _ j); finite_picks = (rw a (λ k h. (copy-atoms _ _ _ l _ i k h, copy-finite _ _ _ l _ i k h)), rw b (λ k h. (copy-atoms _ _ _ l _ j k h, copy-finite _ _ _ l _ j k h))) }
 
 pub returns : goal.returns
 unfolding copies_touch

@@ -11,6 +11,3 @@ span_of-requires c =
     let l = sound-lists _ _ _ c.requires.picks_value in
     let b = c.copy_picks.ensures in
     record { a_nonzero = rw b (copy_some _ _ _ l _ c.requires.j_bound); by_index = rw b (copy-atoms _ _ _ l _ c.requires.j_bound) }
-
-pub returns : goal.returns
-returns c = rw (c.span_of.ensures, c.copy_picks.ensures)

@@ -4,13 +4,10 @@ use Rattle.pick_lists.proofs.CopyPicks.{copy-part, copy_some, copy-atoms}
 use Rattle.spans.proofs.row_apart.Goals as goal
 
 pub copy_picks-requires : goal.copy_picks-requires
-copy_picks-requires c = copy-part _ _ _ (sound-lists _ _ _ c.requires.picks_value) _ c.requires.j_bound
+copy_picks-requires g c = copy-part _ _ _ (sound-lists _ _ _ c.requires.picks_value) _ c.requires.j_bound
 
 pub spans_apart-requires : goal.spans_apart-requires
-spans_apart-requires c =
+spans_apart-requires g c =
     let l = sound-lists _ _ _ c.requires.picks_value in
     let b = c.copy_picks.ensures in
     record { b_nonzero = rw b (copy_some _ _ _ l _ c.requires.j_bound); by_index = rw b (copy-atoms _ _ _ l _ c.requires.j_bound) }
-
-pub returns : goal.returns
-returns c = rw (c.spans_apart.ensures, c.copy_picks.ensures)

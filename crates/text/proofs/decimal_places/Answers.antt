@@ -1,13 +1,10 @@
--- What is left to prove of `decimal_places`. Assumes nothing.
-use native.Mathlib.Omega.{arith}
-use Rattle.text.proofs.Numerals.{places-one, places-more, places-few}
+-- `text::decimal_places` meets its contract: the logarithm of a number, and of 1 for 0. Assumes nothing.
+use Rattle.std.proofs.Common.{arith}
+use Rattle.text.proofs.Numerals.{places-between}
 use Rattle.text.proofs.decimal_places.Goals as goal
 
-pub overflow_add-k : goal.overflow_add-k
-overflow_add-k c = omega (arith, places-few c.args.n)
-
-pub loop-m-preserved : goal.loop-m-preserved
-loop-m-preserved c = omega (arith, places-more c.loop-m.m c.loop-m-test.true (omega arith))
-
 pub returns : goal.returns
-returns c = omega (arith, places-one c.loop-m.m c.loop-m-test.false, places-few c.args.n)
+returns c =
+    let e = c.max.ensures in
+    let l = c.ilog10.ensures in
+    (places-between _ c.args.n l.bound (rw e at l.power_le) (rw e at l.next_power_gt), omega (arith, l.bound))

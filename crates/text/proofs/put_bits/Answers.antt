@@ -4,8 +4,8 @@ use Rattle.text.proofs.put_bits.Goals as goal
 
 pub put_word-requires : goal.put_word-requires
 unfolding hex_bits
-put_word-requires c = rw c.to_bits32.ensures c.requires
+put_word-requires c = rw c.to_bits.ensures c.requires
 
 pub returns : goal.returns
 unfolding hex_bits
-returns c = rw c.to_bits32.ensures at c.put_word.ensures
+returns c = rw c.to_bits.ensures at c.put_word.ensures

@@ -51,5 +51,5 @@ returns c =
     c.build_tree.auto.water_order
     c.build_tree.result
     (tree_room c.args.records.now c.args.boxes.now c.args.limit)
-    (rw c.from_cell.ensures at c.build_tree.ensures.answer, rw c.from_cell.ensures at c.build_tree.ensures.after) in
+    (rw c.from.ensures at c.build_tree.ensures.answer, rw c.from.ensures at c.build_tree.ensures.after) in
     record { answer = r.0; after = r.1 }

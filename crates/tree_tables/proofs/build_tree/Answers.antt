@@ -1,7 +1,7 @@
 -- `build_tree` meets its contract: without points at once; else by the builder's answer at the root (`planted`), whose room is capped
 -- where no tree reaches (`room-is`). Assumes nothing.
 use native.Mathlib.Omega.{arith}
-use mathlib.Core.Path.{◌≡◌, sym, ap, ◌∙◌}
+use mathlib.Core.Path.{◌≡◌, refl, sym, ap, ◌∙◌}
 use mathlib.Core.List.{List}
 use Prim.Native.Nat.{ℕ, ◌+◌, ◌≤◌, min}
 use lib.ListN.{length, replicate}
@@ -33,31 +33,30 @@ returns-then-center_order-water_order-eq0 c =
     record { answer = r.0; after = r.1 }
 
 -- no room
-pub returns-in-Full : goal.returns-in-Full
-returns-in-Full c =
+pub returns-in_default : goal.returns-in_default
+returns-in_default c =
     let g = c.args in
     let tree : Subtrees = tree_of g.bounds g.centers.now g.waters.now in
     let room : ℕ = tree_room g.records.now g.boxes.now g.limit in
     let lent : TreeTables = tree_tables g.center_order.now g.water_order.now g.records.now g.boxes.now in
-    let room-is : c.min-room.result ≡ min room most_nodes =
-    c.min-room.ensures ∙ ap (λ (n : ℕ). min n most_nodes) (c.min.ensures ∙ ap (λ (n : ℕ). min n g.limit) c.min-tables.ensures) in
+    let room-is : c.min-room.result ≡ min room most_nodes = cc in
     let some : length c.count_up.new.s + length c.count_up-2.new.s ≡ 0 → ⊥ = c.if-center_order-water_order-eq0.false in
     let p =
     planted-at _ _ _ _ _ _ _ _ _ _ tree
     (tree-some g.bounds g.centers.now g.waters.now g.center_order.now g.water_order.now c.requires.0 c.requires.1
     (λ e. some (omega (arith, e, c.count_up.auto.s, c.count_up-2.auto.s))) _ _ c.count_up.ensures c.count_up-2.ensures)
-    c.build-r.ensures in
-    let same-c : length c.build-r.new.corder ≡ length g.center_order.now = c.build-r.auto.corder ∙ c.count_up.auto.s in
-    let same_w : length c.build-r.new.worder ≡ length g.water_order.now = c.build-r.auto.worder ∙ c.count_up-2.auto.s in
-    let h = full-of _ _ _ _ _ _ _ _ _ _ p c.in-Full.is in
+    c.in_default.ensures in
+    let same-c : length c.build.new.corder ≡ length g.center_order.now = c.build.auto.corder ∙ c.count_up.auto.s in
+    let same_w : length c.build.new.worder ≡ length g.water_order.now = c.build.auto.worder ∙ c.count_up-2.auto.s in
+    let h = full-of _ _ _ _ _ _ _ _ _ _ p refl in
     let e = c.reset.ensures in
     let r =
     answered-full tree room lent _ _ _ _
     (cap-full g.bounds g.centers.now g.waters.now g.center_order.now g.water_order.now c.requires.0 c.requires.1 room _ room-is h)
     (e.corder_after ∙ ap first_numbers same-c)
     (e.worder_after ∙ ap first_numbers same_w)
-    (e.records_after ∙ ap (λ (n : ℕ). replicate n 0) c.build-r.auto.records)
-    (e.boxes_after ∙ ap (λ (n : ℕ). replicate n (of_bits binary32 0)) c.build-r.auto.boxes) in
+    (e.records_after ∙ ap (λ (n : ℕ). replicate n 0) c.build.auto.records)
+    (e.boxes_after ∙ ap (λ (n : ℕ). replicate n (of_bits binary32 0)) c.build.auto.boxes) in
     record { answer = r.0; after = r.1 }
 
 -- room for all
@@ -67,17 +66,16 @@ returns c =
     let tree : Subtrees = tree_of g.bounds g.centers.now g.waters.now in
     let room : ℕ = tree_room g.records.now g.boxes.now g.limit in
     let lent : TreeTables = tree_tables g.center_order.now g.water_order.now g.records.now g.boxes.now in
-    let room-is : c.min-room.result ≡ min room most_nodes =
-    c.min-room.ensures ∙ ap (λ (n : ℕ). min n most_nodes) (c.min.ensures ∙ ap (λ (n : ℕ). min n g.limit) c.min-tables.ensures) in
+    let room-is : c.min-room.result ≡ min room most_nodes = cc in
     let some : length c.count_up.new.s + length c.count_up-2.new.s ≡ 0 → ⊥ = c.if-center_order-water_order-eq0.false in
     let p =
     planted-at _ _ _ _ _ _ _ _ _ _ tree
     (tree-some g.bounds g.centers.now g.waters.now g.center_order.now g.water_order.now c.requires.0 c.requires.1
     (λ e. some (omega (arith, e, c.count_up.auto.s, c.count_up-2.auto.s))) _ _ c.count_up.ensures c.count_up-2.ensures)
-    c.build-r.ensures in
-    let same-c : length c.build-r.new.corder ≡ length g.center_order.now = c.build-r.auto.corder ∙ c.count_up.auto.s in
-    let same_w : length c.build-r.new.worder ≡ length g.water_order.now = c.build-r.auto.worder ∙ c.count_up-2.auto.s in
-    let f = filled_of _ _ _ _ _ _ _ _ _ _ p _ _ c.in_default.is in
+    c.in-Some.ensures in
+    let same-c : length c.build.new.corder ≡ length g.center_order.now = c.build.auto.corder ∙ c.count_up.auto.s in
+    let same_w : length c.build.new.worder ≡ length g.water_order.now = c.build.auto.worder ∙ c.count_up-2.auto.s in
+    let f = filled_of _ _ _ _ _ _ _ _ _ _ p _ refl in
     let r =
     answered-fits tree room lent _ _ _ _ _
     (cap-fits g.bounds g.centers.now g.waters.now g.center_order.now g.water_order.now c.requires.0 c.requires.1 room _ room-is f.0) f.1 same-c same_w in

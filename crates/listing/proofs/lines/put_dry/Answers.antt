@@ -5,26 +5,11 @@ use Prim.Native.Nat.{ℕ}
 use native.Mathlib.Omega.{arith}
 use Rattle.text.specs.Text.{ascii, decimal}
 use Rattle.listing.specs.Listing.{dry_line}
-use Rattle.listing.proofs.Words.{words-first, words-next, words_last, next_fits, last_fits}
+use Rattle.listing.proofs.Words.{words-first, words-next, words_last}
 use Rattle.listing.proofs.lines.put_dry.Goals as goal
 
 abbrev words : ℕ → List (List ℕ)
 words x = ascii "dryleaves" ∷ decimal x ∷ []
-
-pub put_text-word-requires : goal.put_text-word-requires
-unfolding dry_line
-put_text-word-requires c =
-    let a = c.args in
-    let zero = words-first (words a.dry) _ c.requires in
-    next_fits (omega arith) zero
-
-pub put_number-requires : goal.put_number-requires
-unfolding dry_line
-put_number-requires c =
-    let a = c.args in
-    let zero = words-first (words a.dry) _ c.requires in
-    let one = words-next (omega arith) zero c.put_text-word.ensures in
-    last_fits refl one
 
 pub returns : goal.returns
 unfolding dry_line

@@ -1,34 +1,24 @@
--- What is left to prove of `put_leaves`. Assumes nothing.
-use mathlib.Core.Path.{◌≡◌, refl}
-use Prim.Native.Nat.{◌-◌}
-use native.Mathlib.Omega.{arith}
-use Rattle.listing.specs.Listing.{leaf_line}
-use Rattle.base.proofs.Filling.{filling-first, filling-append, filling-last}
-use Rattle.listing.proofs.Lengths.{leaves_none, leaves-more, leaves-length}
+-- `listing::lines::put_leaves` meets its contract: a leaf's line is the next of those that are still to be written. Assumes nothing.
+use Rattle.std.proofs.Common.{arith}
+use Rattle.base.proofs.Filling.{filling-last}
+use Rattle.listing.proofs.Leaves.{leaves-next, leaves-none}
+use Rattle.listing.proofs.Pieces.{piece, piece-fits}
 use Rattle.listing.proofs.lines.put_leaves.Goals as goal
-
-pub loop-i-init : goal.loop-i-init
-loop-i-init c =
-    let a = c.args in
-    let all : a.count - 0 ≡ a.count = omega arith in
-    (omega arith, refl, rw all (filling-first c.requires.1))
 
 pub put_leaf-end-requires : goal.put_leaf-end-requires
 put_leaf-end-requires c =
-    let a = c.args in
-    (omega arith, omega (arith, c.loop-i.invariant.2.room, leaves-length a.leaves.now a.count c.loop-i.i c.loop-i.p (omega arith)))
+    let runs = c.as_chunks.ensures in
+    let next = leaves-next c.args.leaves.now c.args.count _ runs.front runs.front_len c.requires.0 c.loop-leaf.leaf-index c.loop-leaf-test.true in
+    piece-fits _ _ (rw next at c.loop-leaf.invariant)
 
-pub loop-i-preserved : goal.loop-i-preserved
-loop-i-preserved c =
-    let a = c.args in
-    let line = c.put_leaf-end.ensures in (
-      omega arith,
-      omega arith,
-      rw (line.0, line.1) (filling-append (leaf_line a.leaves.now c.loop-i.p) (rw (leaves-more a.leaves.now a.count c.loop-i.i c.loop-i.p (omega arith)) at c.loop-i.invariant.2)),
-    )
+pub loop-leaf-preserved : goal.loop-leaf-preserved
+loop-leaf-preserved c =
+    let runs = c.as_chunks.ensures in
+    let next = leaves-next c.args.leaves.now c.args.count _ runs.front runs.front_len c.requires.0 c.loop-leaf.leaf-index c.loop-leaf-test.true in
+    piece _ _ (rw next at c.loop-leaf.invariant) c.put_leaf-end.ensures
 
 pub returns : goal.returns
 returns c =
-    let a = c.args in
-    let z = rw (leaves_none a.leaves.now (a.count - c.loop-i.i) c.loop-i.p (omega arith)) at c.loop-i.invariant.2 in
+    let runs = c.as_chunks.ensures in
+    let z = rw (leaves-none c.args.leaves.now c.args.count _ runs.front runs.front_len c.requires.0 c.loop-leaf.leaf-index c.loop-leaf-test.false) at c.loop-leaf.invariant in
     (omega (arith, z.left), filling-last z)

@@ -4,6 +4,4 @@ use Rattle.listing.proofs.Lengths.{length-leaf}
 use Rattle.listing.proofs.sizes.leaf_size.Goals as goal
 
 pub returns : goal.returns
-returns c =
-    let a = c.args in
-    omega (arith, length-leaf a.leaves.now a.p)
+returns c = omega (arith, length-leaf c.args.leaf.now 0)

@@ -1,32 +1,26 @@
--- What is left to prove of `leaves_fit`. Assumes nothing.
-use mathlib.Core.Path.{◌≡◌, refl, sym, ap, ◌∙◌}
-use Prim.Native.Nat.{ℕ, ◌-◌}
-use native.Mathlib.Omega.{arith}
-use lib.Dec.{leb}
-use lib.ListN.{length}
+-- `listing::sizes::leaves_fit` meets its contract: a line that fits takes its bytes of the room. Assumes nothing.
+use Rattle.std.proofs.Common.{◌≤◌, sym, ap, ◌∙◌, arith, length, leb}
 use borrow.Author.Tests.{le-leb, lt-leb}
-use Rattle.listing.proofs.Lengths.{leaves_none, leaves-length, fits-less}
+use Rattle.listing.proofs.Leaves.{leaves-longer, leaves-none, fits-less}
 use Rattle.listing.proofs.sizes.leaves_fit.Goals as goal
 
-pub loop-i-init : goal.loop-i-init
-loop-i-init c =
-    let all : c.args.count - 0 ≡ c.args.count = omega arith in
-    (omega arith, refl, rw all)
+pub returns-in_default : goal.returns-in_default
+returns-in_default c =
+    let runs = c.as_chunks.ensures in
+    let next = leaves-longer c.args.leaves.now c.args.count _ runs.front runs.front_len c.requires c.loop-leaf.leaf-index c.loop-leaf-test.true in
+    let long : c.leaf_size.result ≤ c.loop-leaf.left → ⊥ = c.in_default.ensures in
+    sym (lt-leb _ c.loop-leaf.left (omega (arith, next, c.leaf_size.ensures))) ∙ c.loop-leaf.invariant
 
-pub returns-then-left-n : goal.returns-then-left-n
-returns-then-left-n c =
-    let n = leaves-length c.args.leaves.now c.args.count c.loop-i.i c.loop-i.p (omega arith) in
-    sym (lt-leb _ c.loop-i.left (omega (arith, n))) ∙ c.loop-i.invariant.2
-
-pub loop-i-preserved : goal.loop-i-preserved
-loop-i-preserved c =
-    let a = c.args in
-    let n = leaves-length a.leaves.now a.count c.loop-i.i c.loop-i.p (omega arith) in
-    let line = c.leaf_size-n.ensures in
-    (omega arith, omega arith, rw line (sym (fits-less _ _ c.loop-i.left (omega (arith, line))) ∙ ap (λ (m : ℕ). leb m c.loop-i.left) (sym n) ∙ c.loop-i.invariant.2))
+pub loop-leaf-preserved : goal.loop-leaf-preserved
+loop-leaf-preserved c =
+    let runs = c.as_chunks.ensures in
+    let next = leaves-longer c.args.leaves.now c.args.count _ runs.front runs.front_len c.requires c.loop-leaf.leaf-index c.loop-leaf-test.true in
+    let size = c.leaf_size.ensures in
+    let fits = c.in-Some.ensures in
+    rw (fits.1, size) (sym (fits-less _ _ c.loop-leaf.left (omega (arith, size, fits))) ∙ ap (λ m. leb m c.loop-leaf.left) (sym next) ∙ c.loop-leaf.invariant)
 
 pub returns : goal.returns
 returns c =
-    let a = c.args in
-    let n = ap length (leaves_none a.leaves.now (a.count - c.loop-i.i) c.loop-i.p (omega arith)) in
-    sym (le-leb _ c.loop-i.left (omega (arith, n))) ∙ c.loop-i.invariant.2
+    let runs = c.as_chunks.ensures in
+    let n = ap length (leaves-none c.args.leaves.now c.args.count _ runs.front runs.front_len c.requires c.loop-leaf.leaf-index c.loop-leaf-test.false) in
+    sym (le-leb _ c.loop-leaf.left (omega (arith, n))) ∙ c.loop-leaf.invariant

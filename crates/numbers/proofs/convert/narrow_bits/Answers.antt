@@ -10,7 +10,7 @@ size_is : (b : ℕ) → bit_and b 9223372036854775807 ≡ b % 922337203685477580
 size_is b = and_mask b 63
 
 pub returns-then-size-gt9218868437227405312 : goal.returns-then-size-gt9218868437227405312
-returns-then-size-gt9218868437227405312 c = narrow-nan c.args.b c.if-size-gt9218868437227405312.true
+returns-then-size-gt9218868437227405312 c = c.from_u64.ensures ∙ narrow-nan c.args.b c.if-size-gt9218868437227405312.true
 
 pub returns-then-b-eq0 : goal.returns-then-b-eq0
 returns-then-b-eq0 c =

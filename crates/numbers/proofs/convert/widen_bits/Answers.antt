@@ -4,4 +4,4 @@ use lib.Ieee.{binary64, to_bits}
 use Rattle.numbers.proofs.convert.widen_bits.Goals as goal
 
 pub returns : goal.returns
-returns c = c.to_bits64.ensures ∙ ap (to_bits binary64) (c.widen.ensures ∙ c.from_bits32.ensures)
+returns c = c.to_bits.ensures ∙ ap (to_bits binary64) (c.widen.ensures ∙ c.from_bits.ensures)

@@ -5,4 +5,4 @@ use Rattle.floats.specs.Whole.{floor_of}
 use Rattle.numbers.proofs.whole.floor_bits32.Goals as goal
 
 pub returns : goal.returns
-returns c = c.to_bits32.ensures ∙ ap (to_bits binary32) (c.floor32.ensures ∙ ap (floor_of binary32) c.from_bits32.ensures)
+returns c = c.to_bits.ensures ∙ ap (to_bits binary32) (c.floor32.ensures ∙ ap (floor_of binary32) c.from_bits.ensures)

@@ -5,4 +5,4 @@ use Rattle.floats.specs.Whole.{round_of}
 use Rattle.numbers.proofs.whole.round_bits32.Goals as goal
 
 pub returns : goal.returns
-returns c = c.to_bits32.ensures ∙ ap (to_bits binary32) (c.round32.ensures ∙ ap (round_of binary32) c.from_bits32.ensures)
+returns c = c.to_bits.ensures ∙ ap (to_bits binary32) (c.round32.ensures ∙ ap (round_of binary32) c.from_bits.ensures)

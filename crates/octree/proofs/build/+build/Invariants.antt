@@ -1,5 +1,5 @@
 -- `build` meets its contract. The measure of the recursion is 14 - depth. The loop over the octants keeps `Growing`: the children so far
--- and those of the octants left, joined, are all that stands below the node; its measure is the octants left. Assumes nothing.
+-- and those of the octants left, joined, are all that stands below the node. Assumes nothing.
 use mathlib.Core.List.{List}
 use Prim.Native.Nat.{ℕ, ◌+◌, ◌-◌, ◌≤◌}
 use lib.Ieee.{Float}
@@ -32,16 +32,12 @@ site_of b depth C W cs₀ ws₀ fc fw rec₀ box₀ at room turns =
       box₀ = box₀;
     }
 
-abbrev pub invariant-loop-left : goal.invariant-loop-left
-invariant-loop-left l =
-    let S : Site = site_of l.b l.depth l.centers l.waters l.fn.corder l.fn.worder l.fc l.fw l.fn.records l.fn.boxes l.at l.room l.initial.left in
+abbrev pub invariant-loop-o : goal.invariant-loop-o
+invariant-loop-o l =
+    let S : Site = site_of l.b l.depth l.centers l.waters l.fn.corder l.fn.worder l.fc l.fw l.fn.records l.fn.boxes l.at l.room l.left in
     let T : Turn =
-    record { left = l.left; next = l.next; deep = l.deep; kids = l.children; ca = l.ca; wa = l.wa; cs = l.corder; ws = l.worder; rec = l.records; box = l.boxes } in
+    record { left = 8 - l.o; next = l.next; deep = l.deep; kids = l.children; ca = l.ca; wa = l.wa; cs = l.corder; ws = l.worder; rec = l.records; box = l.boxes } in
     record {
       grows : Growing S T;
-      turns-ok : l.children + l.left ≤ 8;
-      less : l.left ≤ l.initial.left;
+      few : l.children ≤ l.o;
     }
-
-abbrev pub decreases-loop-left : goal.decreases-loop-left
-decreases-loop-left l = l.left
