@@ -179,7 +179,9 @@ fn quotient(a: u32, b: u32) -> f32
     a as f32 / b as f32
 }
 
-// The three fractions of a sound table of n copies.
+// The three fractions of a sound table of n copies. A call of its own, so that the search's local arrays stand on the
+// stack only while it runs.
+#[inline(never)]
 pub fn fractions(table: &[u32], n: usize) -> ClusterFractions
     requires n_le_max_copies { (n ≤ max_copies) × (words n ≤ length table.now) }
     requires table_value { sound_table n table.now ≡ true }
