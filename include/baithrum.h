@@ -30,8 +30,8 @@
  *   another, and fesetround sets one: answers may change then. Where invalid or inexact is trapped, a call may end in SIGFPE. A call leaves the
  *   state as it is, but for flags, which ordinary frames set. _mm_setcsr(0x1F80) before a call mends all of these.
  * - The stack has room, beside the lent tables. The least on which a call answers, measured (measure/run stack), in bytes: Select, Open and
- *   Centers under 500 (where the call is the first to bind memcpy or memset lazily, 3,400), Row 8,912, Close 32,880, Dispersion 50,208,
- *   Tree 1,173,280, Report 1,173,920, the whole frame 1,289,248.
+ *   Centers under 500 (where the call is the first to bind memcpy or memset lazily, 3,400), Row 8,912, Close 24,736, Dispersion 50,208,
+ *   Tree 1,173,280, Report 1,173,920, the whole frame 1,289,264.
  */
 #ifndef BAITHRUM_H
 #define BAITHRUM_H
