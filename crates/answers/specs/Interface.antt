@@ -5,7 +5,6 @@ use Rattle.std.specs.Float.{binary32}
 use Rattle.std.specs.Float.Ieee.{to_bits}
 use Rattle.cell.specs.declared.Cell.{Cell}
 use Rattle.base.specs.Tables.{over}
-use Rattle.base.specs.declared.Refused.{Refused}
 use Rattle.mixing.specs.declared.Mixture.{Mixture}
 
 -- low x y z, high x y z
@@ -27,18 +26,21 @@ unfoldable pub answers_after : List ℕ → List ℕ → List ℕ
 unfolding over
 answers_after values answers = over (take (length answers) values) answers
 
--- the whole frame's counts: copies, picks, nodes, greatest depth, reported leaves, dry leaves; none with a refusal or blank
-abbrev pub frame_counts : Result (Option Mixture) Refused → List ℕ
-frame_counts (Err e) = []
-frame_counts (Ok None) = []
-frame_counts (Ok (Some m)) = m.counted.copies ∷ m.counted.picks ∷ m.report.nodes ∷ m.report.depth ∷ m.report.leaves ∷ m.report.dry ∷ []
+-- a frame's counts: copies, picks, nodes, greatest depth, reported leaves, dry leaves; none of a blank one
+abbrev pub mixed_counts : Option Mixture → List ℕ
+mixed_counts None = []
+mixed_counts (Some m) = m.counted.copies ∷ m.counted.picks ∷ m.report.nodes ∷ m.report.depth ∷ m.report.leaves ∷ m.report.dry ∷ []
 
--- its words: blank (1 or 0), copies, picks, the largest, contacted and pair fractions and the dispersion as bits, nodes, greatest depth,
--- reported leaves, dry leaves; zeros after the 1 of a blank frame, and none with a refusal
-unfoldable pub frame_words : Result (Option Mixture) Refused → List ℕ
-frame_words (Err e) = []
-frame_words (Ok None) = 1 ∷ replicate 10 0
-frame_words (Ok (Some m)) =
+-- the whole frame's: none with a refusal
+abbrev pub frame_counts : {E : Type 0} → Result (Option Mixture) E → List ℕ
+frame_counts (Err e) = []
+frame_counts (Ok m) = mixed_counts m
+
+-- a frame's words: blank (1 or 0), copies, picks, the largest, contacted and pair fractions and the dispersion as bits, nodes, greatest depth,
+-- reported leaves, dry leaves; zeros after the 1 of a blank one
+unfoldable pub mixed_words : Option Mixture → List ℕ
+mixed_words None = 1 ∷ replicate 10 0
+mixed_words (Some m) =
     0
     ∷ m.counted.copies
     ∷ m.counted.picks
@@ -51,3 +53,9 @@ frame_words (Ok (Some m)) =
     ∷ m.report.leaves
     ∷ m.report.dry
     ∷ []
+
+-- the whole frame's: none with a refusal
+unfoldable pub frame_words : {E : Type 0} → Result (Option Mixture) E → List ℕ
+unfolding mixed_words
+frame_words (Err e) = []
+frame_words (Ok m) = mixed_words m

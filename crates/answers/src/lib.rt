@@ -1,14 +1,14 @@
 // How the C interface takes a cell and gives an answer: its number, and its values as words of the lent answers table.
-#![tactic(auto, unfolding(crate::specs::Interface::bits_of, crate::specs::Interface::frame_words, crate::specs::Interface::answers_after, base::specs::Tables::over))]
+#![tactic(auto, unfolding(crate::specs::Interface::bits_of, crate::specs::Interface::frame_words, crate::specs::Interface::mixed_words, crate::specs::Interface::answers_after, base::specs::Tables::over))]
 
-ghost use Rattle.std.specs.Prelude.{◌≡◌};
-ghost use Rattle.base.specs.Refusals.{answer_number};
+ghost use Rattle.std.specs.Prelude.{◌≡◌, ℕ};
+ghost use Rattle.base.specs.Refusals.{refusal_number, number_by};
 ghost use Rattle.selection.specs.Selection.{select_values};
 ghost use Rattle.clusters.specs.Answers.{close_values};
 ghost use Rattle.dispersion.specs.Dispersion.{dispersion_values};
 ghost use Rattle.tree.specs.Tree.{tree_values};
 ghost use Rattle.report.specs.Report.{report_values};
-ghost use Rattle.answers.specs.Interface.{cell_of, bits_of, Small, answers_after, frame_counts, frame_words};
+ghost use Rattle.answers.specs.Interface.{cell_of, bits_of, Small, answers_after, mixed_counts, frame_counts, mixed_words, frame_words};
 
 use base::Refused;
 use cell::{Cell, Vec3};
@@ -18,6 +18,30 @@ use numbers::class::to_bits;
 use octree::TreeSize;
 use report::ReportCounts;
 use selection::Counted;
+
+// What an answer may refuse with: something that has a number. The library's own refusals are one such type; a caller who has numbers takes these.
+pub trait Numbered: Copy {
+    ghost number: { Self → ℕ };
+
+    fn number(self) -> u32
+        ensures { result ≡ number self };
+}
+
+impl Numbered for Refused {
+    ghost number = { refusal_number };
+
+    fn number(self) -> u32 {
+        Refused::number(self)
+    }
+}
+
+impl Numbered for u32 {
+    ghost number = { λ n. n };
+
+    fn number(self) -> u32 {
+        self
+    }
+}
 
 // The cell of six numbers.
 pub fn cell(lx: f32, ly: f32, lz: f32, hx: f32, hy: f32, hz: f32) -> Cell
@@ -47,8 +71,8 @@ fn words(values: &[u32], answers: &mut [u32])
 }
 
 // An answer that is acceptance alone.
-pub fn number(a: Result<(), Refused>) -> u32
-    ensures { result ≡ answer_number a }
+pub fn number<E: Numbered>(a: Result<(), E>) -> u32
+    ensures { result ≡ number_by E.number a }
 {
     match a {
         Err(refused) => refused.number(),
@@ -57,9 +81,9 @@ pub fn number(a: Result<(), Refused>) -> u32
 }
 
 // Select's answer. Its counts fit a word, as do the other calls'.
-pub fn selected(a: Result<Counted, Refused>, answers: &mut [u32]) -> u32
+pub fn selected<E: Numbered>(a: Result<Counted, E>, answers: &mut [u32]) -> u32
     requires { Small (select_values a) }
-    ensures number { result ≡ answer_number a }
+    ensures number { result ≡ number_by E.number a }
     ensures answers_after { answers.new ≡ answers_after (select_values a) answers.old }
 {
     match a {
@@ -72,8 +96,8 @@ pub fn selected(a: Result<Counted, Refused>, answers: &mut [u32]) -> u32
 }
 
 // Close's answer.
-pub fn closing(a: Result<ClusterFractions, Refused>, answers: &mut [u32]) -> u32
-    ensures number { result ≡ answer_number a }
+pub fn closing<E: Numbered>(a: Result<ClusterFractions, E>, answers: &mut [u32]) -> u32
+    ensures number { result ≡ number_by E.number a }
     ensures answers_after { answers.new ≡ answers_after (bits_of (close_values a)) answers.old }
 {
     match a {
@@ -89,8 +113,8 @@ pub fn closing(a: Result<ClusterFractions, Refused>, answers: &mut [u32]) -> u32
 }
 
 // Dispersion's answer.
-pub fn dispersed(a: Result<f32, Refused>, answers: &mut [u32]) -> u32
-    ensures number { result ≡ answer_number a }
+pub fn dispersed<E: Numbered>(a: Result<f32, E>, answers: &mut [u32]) -> u32
+    ensures number { result ≡ number_by E.number a }
     ensures answers_after { answers.new ≡ answers_after (bits_of (dispersion_values a)) answers.old }
 {
     match a {
@@ -103,9 +127,9 @@ pub fn dispersed(a: Result<f32, Refused>, answers: &mut [u32]) -> u32
 }
 
 // Tree's answer.
-pub fn tree(a: Result<TreeSize, Refused>, answers: &mut [u32]) -> u32
+pub fn tree<E: Numbered>(a: Result<TreeSize, E>, answers: &mut [u32]) -> u32
     requires { Small (tree_values a) }
-    ensures number { result ≡ answer_number a }
+    ensures number { result ≡ number_by E.number a }
     ensures answers_after { answers.new ≡ answers_after (tree_values a) answers.old }
 {
     match a {
@@ -118,9 +142,9 @@ pub fn tree(a: Result<TreeSize, Refused>, answers: &mut [u32]) -> u32
 }
 
 // Report's answer.
-pub fn report(a: Result<ReportCounts, Refused>, answers: &mut [u32]) -> u32
+pub fn report<E: Numbered>(a: Result<ReportCounts, E>, answers: &mut [u32]) -> u32
     requires { Small (report_values a) }
-    ensures number { result ≡ answer_number a }
+    ensures number { result ≡ number_by E.number a }
     ensures answers_after { answers.new ≡ answers_after (report_values a) answers.old }
 {
     match a {
@@ -142,8 +166,8 @@ pub fn report(a: Result<ReportCounts, Refused>, answers: &mut [u32]) -> u32
 
 // The words of a frame that nothing refuses: the first tells blank.
 fn mixed(a: Option<Mixture>, answers: &mut [u32])
-    requires { Small (frame_counts (Ok a)) }
-    ensures { answers.new ≡ answers_after (frame_words (Ok a)) answers.old }
+    requires { Small (mixed_counts a) }
+    ensures { answers.new ≡ answers_after (mixed_words a) answers.old }
 {
     match a {
         None => words(&[1, 0, 0, 0, 0, 0, 0, 0, 0, 0, 0], answers),
@@ -167,9 +191,9 @@ fn mixed(a: Option<Mixture>, answers: &mut [u32])
 }
 
 // The whole frame's answer.
-pub fn frame(a: Result<Option<Mixture>, Refused>, answers: &mut [u32]) -> u32
+pub fn frame<E: Numbered>(a: Result<Option<Mixture>, E>, answers: &mut [u32]) -> u32
     requires { Small (frame_counts a) }
-    ensures number { result ≡ answer_number a }
+    ensures number { result ≡ number_by E.number a }
     ensures answers_after { answers.new ≡ answers_after (frame_words a) answers.old }
 {
     match a {

@@ -66,7 +66,11 @@ refused r = Err (refusal_of r)
 abbrev pub answer_of : ℕ → Result ⊤ Refused
 answer_of r = unless_refused r (Ok tt) (refused r)
 
--- the number of each case of an answer: 0 for acceptance, a refusal's own
+-- the number of each case of an answer: 0 for acceptance, and at a refusal what f says of it
+abbrev pub number_by : {A E : Type 0} → (E → ℕ) → Result A E → ℕ
+number_by f (Ok x) = 0
+number_by f (Err e) = f e
+
+-- a refusal's own
 abbrev pub answer_number : {A : Type 0} → Result A Refused → ℕ
-answer_number (Ok x) = 0
-answer_number (Err e) = refusal_number e
+answer_number = number_by refusal_number

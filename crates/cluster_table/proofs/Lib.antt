@@ -1,7 +1,7 @@
 -- Laws that belong to no one function: first the table, then what serves the code's steps.
 -- parents, degrees and marks are each their own part of the table
 pub mod Parts
--- a test and a count over a part of the table
+-- a test over a part of the table
 pub mod Lists
 -- what one contact writes
 pub mod Contacts

@@ -165,10 +165,14 @@ fn contacted(table: &[u32], n: usize) -> u32
     requires { (n ≤ max_copies) × (words n ≤ length table.now) }
     ensures { result ≡ count n (λ i. ltb 0 (degree n table.now i)) }
 {
-    degrees(table, n)
-        .iter()
-        .filter(|degree| **degree > 0)
-        .count() as u32
+    // A chain of `filter` and `count` has a branch on each degree, guessed wrong where copies with and without a contact alternate.
+    let mut k = 0;
+    for degree in degrees(table, n) {
+        if *degree > 0 {
+            k += 1;
+        }
+    }
+    k
 }
 
 // One division of two whole numbers that f32 holds exactly.

@@ -18,7 +18,7 @@ use Rattle.cluster_table.specs.Refusals.{row_table_refusals}
 use Rattle.cluster_table.specs.Fractions.{table_fractions}
 
 -- largest, contacted and pair fraction, as Close answers them; none with a refusal
-abbrev pub close_values : Result ClusterFractions Refused → List Float
+abbrev pub close_values : {E : Type 0} → Result ClusterFractions E → List Float
 close_values (Ok f) = f.largest ∷ f.contacted ∷ f.pair ∷ []
 close_values (Err e) = []
 

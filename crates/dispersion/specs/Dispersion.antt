@@ -60,6 +60,6 @@ unfolding dispersion_refusal dispersion_of
 dispersion_answer f = let r = dispersion_refusal f in unless_refused r (Ok (dispersion_of f)) (refused r)
 
 -- the values of an answer: the score, none with a refusal
-abbrev pub dispersion_values : Result Float Refused → List Float
+abbrev pub dispersion_values : {E : Type 0} → Result Float E → List Float
 dispersion_values (Ok s) = s ∷ []
 dispersion_values (Err e) = []

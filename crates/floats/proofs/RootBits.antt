@@ -12,15 +12,12 @@ use lib.Ieee.Fits.{two, reach, down_pos}
 use lib.Ieee.Bits.{to_bits-of_bits, of_bits-fits, to_bits-lt, is_true}
 use lib.Ieee.Exact.{HasValue, odd_sign}
 use Rattle.floats.specs.Root.{root_drop, root_digits, root_units, sqrt_of}
+use Rattle.floats.specs.Inner.{rooted, Packed}
 use Rattle.floats.proofs.Powers.{pow-join}
 use Rattle.floats.proofs.Patterns.{unsigned_is, nan_pattern}
 use Rattle.floats.proofs.Fields.{of_bits_is, top_pos, same-fraction, below_top, low_value, normal-value, with_lead, zero_is}
 use Rattle.floats.proofs.Packing.{plus-bits}
 use Rattle.floats.proofs.RootUnits.{squared-is, q-le, q-floor, y, y-value, sqrt-fits}
-
--- the pattern of the root of the value whose pattern is b
-abbrev rooted : Format → ℕ → ℕ
-rooted f b = to_bits f (sqrt_of f (of_bits f b))
 
 -- ---- the tests on b's bits: `size` is b & (top - 1)
 module _ (f : Format) (b : ℕ) where
@@ -114,9 +111,6 @@ root-bits f q₀ k Z M O x v =
     (λ z. q-floor f q₀ k Z M O) (q-le f q₀ k Z M O))
 
 -- ---- a subnormal number, and a normal one: the fields that `root_of` gives, put together in 64 bits
-abbrev pub Packed : Format → ℕ → ℕ → ℕ → Type 0
-Packed f b E D = (E * hid f % 2 ^ 64 + D ≡ rooted f b) × (E * hid f % 2 ^ 64 + D < 2 * top f)
-
 word : (f : Format) → 2 * top f ≤ 2 ^ 64
 word binary32 = lit≤ tt
 word binary64 = lit≤ tt

@@ -32,7 +32,7 @@ use Rattle.mixing.specs.Frame.{Frame, FrameTables, kept, pick_numbers, tree_inpu
 use Rattle.mixing.proofs.Outcomes.{Passed}
 use Rattle.mixing.proofs.Tested.{room, waters-few, lists-sound}
 use Rattle.mixing.proofs.Answered.{answered}
-use Rattle.answers.specs.Interface.{Small, frame_counts}
+use Rattle.answers.specs.Interface.{Small, mixed_counts, frame_counts}
 
 small-none : Small []
 small-none zero = omega arith
@@ -122,7 +122,7 @@ module _ (f : Input) where
 
 -- ---- the whole frame
 module _ (f : Frame) (t : FrameTables) where
-  mixture-small : Passed f t → Small (frame_counts (Ok (Some (mixture f t))))
+  mixture-small : Passed f t → Small (mixed_counts (Some (mixture f t)))
   unfolding mixture
   mixture-small p =
       let fits = room f t p in
@@ -138,4 +138,4 @@ module _ (f : Frame) (t : FrameTables) where
       by-case : (a : Result (Option Mixture) Refused) → a ≡ frame_answer f t → Small (frame_counts a)
       by-case (Err e) h = small-none
       by-case (Ok None) h = small-none
-      by-case (Ok (Some m)) h = let a = answered f t m h in subst (λ (x : Mixture). Small (frame_counts (Ok (Some x)))) (sym a.is) (mixture-small a.passed)
+      by-case (Ok (Some m)) h = let a = answered f t m h in subst (λ (x : Mixture). Small (mixed_counts (Some x))) (sym a.is) (mixture-small a.passed)

@@ -58,6 +58,16 @@ fn firsts(counts: &[usize; 8]) -> [usize; 8]
     places
 }
 
+// Copies src to dst. Of std's `copy_from_slice` the compiler makes a call of memmove here, which a program in C would then have to bring.
+fn paste(dst: &mut [u32], src: &[u32])
+    requires { length dst.old ≡ length src.now }
+    ensures { dst.new ≡ src.now }
+{
+    for (i, slot) in dst.iter_mut().enumerate() {
+        *slot = src[i];
+    }
+}
+
 // Puts each saved point, in their order, at the next place of its octant.
 fn deal(saved: &[u32], codes: &[u8], places: &mut [usize; 8], order: &mut [u32])
     requires { Dealable codes.now saved.now (length order.old) places.old }
@@ -83,7 +93,7 @@ pub fn arrange(
     ensures { Arranged points.now center order.old order.new counts.new }
 {
     let saved = &mut scratch[..order.len()];
-    saved.copy_from_slice(order);
+    paste(saved, order);
     tally(order, points, center, codes, counts);
     let mut places = firsts(counts);
     deal(saved, codes, &mut places, order);

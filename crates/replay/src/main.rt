@@ -4,6 +4,8 @@
 // the length of its listing and the listing; counts and lengths are four bytes, the lowest first.
 #![tactic(auto)]
 
+ghost use Rattle.std.specs.Prelude.{◌≡◌, ◌+◌, ◌-◌, ◌≤◌, length, drop, IfSome};
+
 use block_text::TEXT_ROOM;
 use std::io;
 
@@ -11,7 +13,9 @@ use std::io;
 const FILE_ROOM: usize = 655361;
 
 // A part of the file and what follows it: its length, and so many bytes. None where the file is cut off in it.
-fn part(file: &[u8]) -> Option<(&[u8], &[u8])> {
+fn part(file: &[u8]) -> Option<(&[u8], &[u8])>
+    ensures { IfSome result (λ r. (length r.1.now + 4 ≤ length file.now) × (r.1.now ≡ drop (length file.now - length r.1.now) file.now)) }
+{
     let (length, rest) = file.split_first_chunk::<4>()?;
     rest.split_at_checked(u32::from_le_bytes(*length) as usize)
 }
@@ -24,7 +28,9 @@ fn agrees(block: &[u8], recorded: &[u8]) -> bool {
 }
 
 // Whether the first record agrees, and what follows it. None where the file is cut off in it.
-fn record(file: &[u8]) -> Option<(bool, &[u8])> {
+fn record(file: &[u8]) -> Option<(bool, &[u8])>
+    ensures { IfSome result (λ r. (length r.1.now + 8 ≤ length file.now) × (r.1.now ≡ drop (length file.now - length r.1.now) file.now)) }
+{
     let (block, rest) = part(file)?;
     let (recorded, rest) = part(rest)?;
     Some((agrees(block, recorded), rest))

@@ -44,7 +44,7 @@ unfolding report_refusal answer_by
 report_answer f t leaves = answer_by (report_refusal f t leaves) f
 
 -- the values of each case of an answer
-abbrev pub report_values : Result ReportCounts Refused → List ℕ
+abbrev pub report_values : {E : Type 0} → Result ReportCounts E → List ℕ
 report_values (Ok c) = c.nodes ∷ c.depth ∷ c.leaves ∷ c.dry ∷ []
 report_values (Err e) = []
 

@@ -5,8 +5,7 @@
 
 ghost use Rattle.std.specs.Prelude.{◌≡◌, suc, ◌*◌, ◌/◌, ◌%◌, ◌^◌, ◌<◌, ◌≤◌};
 ghost use Rattle.std.specs.Float.Ieee.{hid, ones, of_bits, to_bits};
-ghost use Rattle.floats.specs.Inner.{Rooted};
-ghost use Rattle.floats.proofs.RootBits.{Packed};
+ghost use Rattle.floats.specs.Inner.{Rooted, Packed};
 ghost use Rattle.floats.specs.Root.{root_drop, root_digits, sqrt_of};
 
 use numbers::class::from_bits;

@@ -98,7 +98,7 @@ select_answer solutes per indices starts picks =
     unless_refused r (Ok (record { copies = length cs; picks = length (picks_of cs) })) (refused r)
 
 -- the values of each case: the kept copies and the picks with success, none with a refusal
-abbrev pub select_values : Result Counted Refused → List ℕ
+abbrev pub select_values : {E : Type 0} → Result Counted E → List ℕ
 select_values (Ok n) = n.copies ∷ n.picks ∷ []
 select_values (Err e) = []
 

@@ -45,7 +45,7 @@ unfolding tree_refusal frame_tree
 tree_answer f t = unless_refused (tree_refusal f t) (Ok (size_of (frame_tree f).nodes)) (refused (tree_refusal f t))
 
 -- the values of each case of an answer
-abbrev pub tree_values : Result TreeSize Refused → List ℕ
+abbrev pub tree_values : {E : Type 0} → Result TreeSize E → List ℕ
 tree_values (Ok s) = s.nodes ∷ s.depth ∷ []
 tree_values (Err e) = []
 

@@ -1,5 +1,5 @@
 // A group of vectors: a file, and the operation that it is about.
-ghost use Rattle.std.specs.Prelude.{◌≤◌, length};
+ghost use Rattle.std.specs.Prelude.{◌≡◌, ◌+◌, ◌≤◌, ◌<◌, length, IfOk};
 
 use crate::line::{self, Line};
 use crate::operation::Operation;
@@ -13,33 +13,64 @@ struct Tally {
     of: u64,
 }
 
+// The tally after a vector more, which counts whether it agreed or not.
+fn compare(
+    rt: &impl Print,
+    name: &str,
+    op: Operation,
+    input: u64,
+    expected: u64,
+    t: Tally,
+) -> io::Result<Tally>
+    requires { (t.agreed ≤ t.of) × (t.of < 65536) }
+    ensures { IfOk result (λ r. (r.agreed ≤ r.of) × (r.of ≡ t.of + 1)) }
+{
+    let got = op.answer(input);
+    let agrees = got == expected;
+    if !agrees {
+        let (i, o) = (op.input_digits(), op.output_digits());
+        println!(rt; "{name}: of {input:0i$X} expected {expected:0o$X}, got {got:0o$X}")?;
+    }
+    Ok(Tally {
+        agreed: t.agreed + u64::from(agrees),
+        of: t.of + 1,
+    })
+}
+
+// The tally after a line more, which has that number in its file.
+fn take_line(
+    rt: &impl Print,
+    name: &str,
+    op: Operation,
+    s: &[u8],
+    number: u64,
+    t: Tally,
+) -> io::Result<Tally>
+    requires { (t.agreed ≤ t.of) × (t.of < 65536) }
+    ensures { IfOk result (λ r. (r.agreed ≤ r.of) × (r.of ≤ t.of + 1)) }
+{
+    match line::read(s, op.input_digits(), op.output_digits()) {
+        Line::Vector(input, expected) => compare(rt, name, op, input, expected, t),
+        Line::Remark => Ok(t),
+        Line::Damaged => {
+            println!(rt; "{name}: line {number} is no vector")?;
+            Ok(t)
+        }
+    }
+}
+
 // Takes the lines of a file in turn.
 fn take_lines(rt: &impl Print, name: &str, op: Operation, text: &[u8]) -> io::Result<Tally>
     requires { length text.now ≤ 65536 }
 {
     let mut t = Tally { agreed: 0, of: 0 };
-    let (i, o) = (op.input_digits(), op.output_digits());
     let mut number: u64 = 0;
     let mut rest = text;
     // No `for` over `split`: of an iterator with a closure in a generic function no invariant can be stated, and `of` would have no bound.
     while let Some((s, after)) = line::cut(rest) {
         number += 1;
         rest = after;
-        match line::read(s, i, o) {
-            Line::Vector(input, expected) => {
-                let got = op.answer(input);
-                t.of += 1;
-                if got == expected {
-                    t.agreed += 1;
-                } else {
-                    println!(rt;
-                        "{name}: of {input:0i$X} expected {expected:0o$X}, got {got:0o$X}"
-                    )?;
-                }
-            }
-            Line::Remark => {}
-            Line::Damaged => println!(rt; "{name}: line {number} is no vector")?,
-        }
+        t = take_line(rt, name, op, s, number, t)?;
     }
     Ok(t)
 }

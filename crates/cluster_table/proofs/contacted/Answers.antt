@@ -1,18 +1,27 @@
--- `cluster_table::contacted` meets its contract: what `count` answers on the degrees that `filter` lets through. Assumes nothing.
-use Rattle.std.proofs.Common.{◌+◌, ◌∙◌, arith, rules, tests, ltb}
-use Rattle.std.proofs.lemmas.Iterator.{YieldsList-from_slice}
-use Rattle.std.proofs.lemmas.Iterator.Consumers.{YieldsList-from_filter, count_from_yields_List}
-use Rattle.std.proofs.lemmas.List.Sums.{length-filter}
-use Rattle.cluster_table.specs.Table.{header, degrees}
-use Rattle.cluster_table.proofs.Lists.{count_list, part-count}
+-- What is left to prove of `contacted`: the degree that a turn takes is the copy's. Assumes nothing.
+use Rattle.std.proofs.Common.{◌≡◌, ◌<◌, ◌≤◌, ◌+◌, ◌∙◌, ap, ℕ, List, length, get_or, arith}
+use Prim.Native.Nat.{zero-le}
+use lib.ListN.{length-take, length-drop}
+use borrow.Author.Tests.{lt-ltb, le-ltb}
+use Rattle.base.proofs.Ranges.{count_none, count-hit, count-miss}
+use Rattle.cluster_table.specs.Table.{degrees, degree, header, words}
+use Rattle.cluster_table.proofs.Lists.{part-at}
 use Rattle.cluster_table.proofs.contacted.Goals as goal
+use Rattle.cluster_table.proofs.contacted.Goals.{then-degree-gt0, else-degree-gt0}
 
-pub returns : goal.returns
-returns c =
-    let t = c.args.table.now in
-    let n = c.args.n in
-    count_from_yields_List c.filter.result _ c.count.ensures.ran
-    (YieldsList-from_filter _ (λ x. ltb 0 x) (YieldsList-from_slice (degrees n t) cc) c.filter.ensures.closure (λ x r q k. search (rules, tests)))
-    ∙ length-filter (λ x. ltb 0 x) (degrees n t)
-    ∙ count_list (λ x. ltb 0 x) (degrees n t)
-    ∙ part-count t (header + n) n (omega arith) (λ x. ltb 0 x)
+taken : (n : ℕ) (t xs : List ℕ) (k : ℕ) → words n ≤ length t → xs ≡ degrees n t → k < length xs → get_or xs k 0 ≡ degree n t k
+taken n t xs k h e l = ap (λ (ys : List ℕ). get_or ys k 0) e ∙ part-at t (header + n) n k (omega (arith, ap length e, size))
+  where
+    size : length (degrees n t) ≡ n
+    size = simp (length-take, length-drop) (omega arith)
+
+pub loop-degree-init : goal.loop-degree-init
+loop-degree-init c = (zero-le, count_none _)
+
+pub loop-degree-preserved : goal.loop-degree-preserved
+loop-degree-preserved c =
+    let d = taken c.args.n c.args.table.now c.degrees-degree-items.result.now c.loop-degree.degree-index (omega (arith, c.requires)) c.degrees-degree-items.ensures c.loop-degree-test.true in
+    elim c.if-degree-gt0.branch [
+      | then-degree-gt0 w ↦ (omega arith, count-hit _ _ _ _ c.loop-degree.invariant.1 (lt-ltb _ _ (omega (arith, d, w.if-degree-gt0.true))) w.k-is)
+      | else-degree-gt0 w ↦ (omega arith, count-miss _ _ _ _ c.loop-degree.invariant.1 (le-ltb _ _ (omega (arith, d, w.if-degree-gt0.false))) w.k-is)
+    ]

@@ -8,7 +8,7 @@ pub firsts-places-requires : goal.firsts-places-requires
 firsts-places-requires c = omega (arith, counts-sum c.tally.ensures, c.requires.few)
 
 pub deal-requires : goal.deal-requires
-deal-requires c = dealable c.tally.ensures c.copy_from_slice.ensures.after (omega arith) (omega (arith, c.requires.room-k)) c.firsts-places.ensures
+deal-requires c = dealable c.tally.ensures c.paste.ensures (omega arith) (omega (arith, c.requires.room-k)) c.firsts-places.ensures
 
 pub returns : goal.returns
-returns c = arranged c.tally.ensures c.copy_from_slice.ensures.after c.deal.ensures
+returns c = arranged c.tally.ensures c.paste.ensures c.deal.ensures
