@@ -19,7 +19,7 @@ use octree::TreeSize;
 use report::ReportCounts;
 use selection::Counted;
 
-// What an answer may refuse with: something that has a number. The library's own refusals are one such type; a caller who has numbers takes these.
+// What an answer may refuse with: the library's own refusals, or a number of the caller's own.
 pub trait Numbered: Copy {
     ghost number: { Self → ℕ };
 
